@@ -7,6 +7,9 @@
 #include <stdbool.h>
 #include <stdlib.h>
 #include <string.h>
+#include <sys/auxv.h>
+#include <sys/resource.h>
+#include <unistd.h>
 
 /* The proved handle, as Rattle declares it. */
 typedef struct {
@@ -55,25 +58,41 @@ const char *graphql_checked_status_text(graphql_checked_status status) {
 
 /* ---- stack */
 
-/* The measures of `caller_memory`, of whose frames those without proofs are larger. */
+/* The measures of `ffi_memory`, of whose frames those without proofs are larger. */
 enum { BASE = 65536, EACH = GRAPHQL_CHECKED_IS_PROVED ? 1152 : 2304 };
 
 size_t graphql_checked_stack(size_t nesting) { return nesting > (SIZE_MAX - BASE) / EACH ? SIZE_MAX : BASE + EACH * nesting; }
+
+/* Finds where the thread's stack begins and ends, by the thread. */
+static bool find_stack(char **low, char **high) {
+    pthread_attr_t attributes;
+    void *at = NULL;
+    size_t size = 0, guard = 0;
+    if (pthread_getattr_np(pthread_self(), &attributes)) return false;
+    pthread_attr_getstack(&attributes, &at, &size);
+    pthread_attr_getguardsize(&attributes, &guard);
+    pthread_attr_destroy(&attributes);
+    *low = (char *)at + guard, *high = (char *)at + size;
+    return true;
+}
+
+/* The same of a process's first thread where /proc/self/maps, which glibc reads for it, cannot be opened. Its stack ends with the page
+ * in which the program's path ends, and grows as far as its limit. Linux keeps at least 128 MB free for that, whatever the limit. */
+static bool find_first_stack(char **low, char **high) {
+    const size_t page = (size_t)sysconf(_SC_PAGESIZE), most = (size_t)64 << 20;
+    const char *path = (const char *)getauxval(AT_EXECFN);
+    struct rlimit limit;
+    if (getpid() != gettid() || !path || getrlimit(RLIMIT_STACK, &limit)) return false;
+    *high = (char *)(((uintptr_t)path + strlen(path)) / page * page + page);
+    *low = *high - (limit.rlim_cur < most ? limit.rlim_cur : most);
+    return true;
+}
 
 /* How many bytes of stack the thread has left; 1 where this runs on no stack of the thread's. */
 static size_t stack_left(void) {
     static _Thread_local char *low, *high;
     char here;
-    if (!high) {
-        pthread_attr_t attributes;
-        void *at = NULL;
-        size_t size = 0, guard = 0;
-        if (pthread_getattr_np(pthread_self(), &attributes)) return 1;
-        pthread_attr_getstack(&attributes, &at, &size);
-        pthread_attr_getguardsize(&attributes, &guard);
-        pthread_attr_destroy(&attributes);
-        low = (char *)at + guard, high = (char *)at + size;
-    }
+    if (!high && !find_stack(&low, &high) && !find_first_stack(&low, &high)) return 1;
     char *volatile at = &here;
     return at > low && at < high ? (size_t)(at - low) : 1;
 }
@@ -120,20 +139,21 @@ static bool drop_deep(held *it) {
     return is_made;
 }
 
-/* Makes room for so many bytes and a zero byte, and at least twice what there was. */
-static bool grow(held *it, size_t length) {
-    if (length == SIZE_MAX) return false;
-    size_t size = length + 1 < 2 * it->size ? 2 * it->size : length + 1;
+/* Of its first room an answer takes only the pages that are written from memory. A room of more than twice as much is long. */
+enum { FIRST = 1 << 19 };
+
+/* Makes room for so many bytes and a zero byte. */
+static bool make_room(held *it, size_t length) {
     free(it->room);
-    it->room = malloc(size);
-    it->size = it->room ? size : 0;
+    it->room = length < SIZE_MAX ? malloc(length + 1) : NULL;
+    it->size = it->room ? length + 1 : 0;
     return it->room != NULL;
 }
 
-/* Tells an answer of so many bytes, if one is wanted. */
-static void tell(const held *it, size_t length, graphql_checked_answer *answer) {
-    if (length) it->room[length] = 0;
-    if (answer) answer->bytes = length ? (const char *)it->room : "", answer->length = length;
+/* Gives back what a long answer took, once a short one follows. */
+static void shrink(held *it, size_t length) {
+    uint8_t *less = it->size > 2 * FIRST && length < FIRST ? realloc(it->room, FIRST) : NULL;
+    if (less) it->room = less, it->size = FIRST;
 }
 
 /* How long a report is when it has no more faults than are wanted: each has a line, and one more begins a report as text. */
@@ -144,7 +164,7 @@ static size_t cut(const held *it, size_t length) {
     return at;
 }
 
-/* ---- calls: each is made again where its answer does not fit the room */
+/* ---- calls */
 
 /* What is asked. */
 typedef struct {
@@ -157,7 +177,7 @@ typedef struct {
 static const uint8_t *bytes(const char *at) { return (const uint8_t *)(at ? at : ""); }
 static size_t length_of(const char *at) { return at ? strlen(at) : 0; }
 
-static uint32_t call(held *it, const question *q, size_t room, size_t *needed) {
+static uint32_t call(held *it, const question *q, uint8_t *room, size_t size, size_t *needed) {
     const graphql_checked_text *document = q->document;
     const char *path = document && document->path ? document->path : "document";
     bool json = it->options.form == GRAPHQL_CHECKED_JSON;
@@ -166,37 +186,39 @@ static uint32_t call(held *it, const question *q, size_t room, size_t *needed) {
         size_t stack = it->options.stack ? it->options.stack : stack_left();
         return graphql_proved_schema_open(bytes(it->texts), q->names_length, q->ends, q->count, bytes(it->texts) + q->names_length,
                                           q->texts_length, q->ends + q->count, q->count, it->options.nesting, stack, json,
-                                          &it->schema, it->room, room, needed);
+                                          &it->schema, room, size, needed);
     }
     case CHECK:
         return graphql_proved_schema_check(&it->schema, json, bytes(path), strlen(path), bytes(document->bytes), document->length,
-                                           it->room, room, needed);
+                                           room, size, needed);
     case SCHEMA_TEXT:
-        return graphql_proved_schema_text(&it->schema, q->indent, bytes(q->indent), length_of(q->indent), it->room, room, needed);
+        return graphql_proved_schema_text(&it->schema, q->indent, bytes(q->indent), length_of(q->indent), room, size, needed);
     default:
         return graphql_proved_document_text(&it->schema, json, bytes(path), strlen(path), bytes(document->bytes), document->length,
-                                            q->indent, bytes(q->indent), length_of(q->indent), it->room, room, needed);
+                                            q->indent, bytes(q->indent), length_of(q->indent), room, size, needed);
     }
-}
-
-/* Asks, and tells the answer. */
-static graphql_checked_status ask(held *it, const question *q, graphql_checked_answer *answer) {
-    enum { FIRST = 4095 };
-    size_t needed = 0;
-    uint32_t status = GRAPHQL_CHECKED_MEMORY;
-    if (it->room || grow(it, FIRST))
-        while (status = call(it, q, it->size - 1, &needed), needed > it->size - 1)
-            if (!grow(it, needed)) {
-                needed = 0, status = GRAPHQL_CHECKED_MEMORY;
-                break;
-            }
-    tell(it, status == GRAPHQL_CHECKED_REFUSED ? cut(it, needed) : needed, answer);
-    return status;
 }
 
 /* A status without an answer. */
 static graphql_checked_status untold(graphql_checked_status status, graphql_checked_answer *answer) {
     if (answer) answer->bytes = "", answer->length = 0;
+    return status;
+}
+
+/* Asks, and tells the answer if one is wanted. The call is made again where the answer does not fit the room. */
+static graphql_checked_status ask(held *it, const question *q, graphql_checked_answer *answer) {
+    uint8_t none = 0;
+    size_t length = 0;
+    uint32_t status;
+    if (!answer) return status = call(it, q, &none, 0, &length), shrink(it, 0), status;
+    if (!it->room && !make_room(it, FIRST - 1)) return untold(GRAPHQL_CHECKED_MEMORY, answer);
+    while (status = call(it, q, it->room, it->size - 1, &length), length > it->size - 1)
+        if (!make_room(it, length)) return untold(GRAPHQL_CHECKED_MEMORY, answer);
+    if (status == GRAPHQL_CHECKED_REFUSED) length = cut(it, length);
+    shrink(it, length);
+    if (!length) return untold(status, answer);
+    it->room[length] = 0;
+    answer->bytes = (const char *)it->room, answer->length = length;
     return status;
 }
 

@@ -12,22 +12,26 @@
  * A handle is opened on the texts of a schema, is then asked about one document after another, and is closed. Texts are UTF-8,
  * with a length, and need no zero byte at the end.
  *
+ * BUILDING. `cc app.c $(pkg-config --cflags --libs graphql_checked)` where the library is installed. At its start a program should
+ * compare graphql_checked_version() with GRAPHQL_CHECKED_VERSION_NUMBER.
+ *
  * MEMORY. The caller owns what it passes, and may free it after the call: a handle has its own copy of the schema's texts. What a
  * handle leads to, and each answer, belong to the library. An answer lasts until the next call on its handle.
  *
  * THREADS. A handle belongs to one thread at a time, until its answer is read. A call on a handle that is in a call already
- * answers GRAPHQL_CHECKED_BUSY and does nothing, from another thread, from a signal handler, and, for ever, in a child that was
- * forked meanwhile. Different handles share nothing: for N threads at once take N handles. Otherwise signal handlers call nothing
- * here, since `malloc` may be under way.
+ * answers GRAPHQL_CHECKED_BUSY and does nothing. In a child that was forked during the call the handle stays busy for ever: open
+ * another. Different handles share nothing: for N threads at once take N handles. A signal handler that interrupts a call is told
+ * that its handle is busy, and may ask nothing else here, since it may interrupt `malloc`.
  *
- * STACK. A text needs the more stack the deeper its brackets nest: `graphql_checked_stack` tells how much, by measure. If
- * the calling thread has less left, the answer is GRAPHQL_CHECKED_STACK.
+ * STACK. A call needs the more stack the greater the `nesting` of the options, whatever the text: `graphql_checked_stack` tells how
+ * much, by measure. If the calling thread has less left, the answer is GRAPHQL_CHECKED_STACK. For small threads set a smaller
+ * nesting: a thread of 128 KB has enough for 20 without proofs, and for 40 proved.
  *
  * PROOF. Where `graphql_checked_proved` answers 1, ACCEPTED is proved to mean that every rule holds, REFUSED that each fault of
  * the report is so, and the texts that are written are proved to be canonical. It holds of callers for whom each pointer leads
  * to as many bytes as are told, which no other thread writes during the call; who read, write, copy or free no handle but by
- * these functions; and whose `malloc`, `realloc` and `free` are of one allocator. No proof covers c/graphql_checked.c, the 250
- * lines of C between these functions and the proved ones: null pointers, copies of texts, answers, BUSY and the stack. */
+ * these functions; and whose `malloc`, `realloc` and `free` are of one allocator. No proof covers c/graphql_checked.c, the lines of
+ * C between these functions and the proved ones: null pointers, copies of texts, answers, BUSY and the stack. */
 #ifndef GRAPHQL_CHECKED_H
 #define GRAPHQL_CHECKED_H
 
@@ -38,7 +42,8 @@
 extern "C" {
 #endif
 
-/* The version of this header. By semantic versioning: before 1.0.0 a new minor number may change anything. */
+/* The version of this header. By semantic versioning: before 1.0.0 a new minor number may change anything, so programs load the
+ * library by a name with it, libgraphql_checked.so.0.1. */
 #define GRAPHQL_CHECKED_VERSION "0.1.0"
 #define GRAPHQL_CHECKED_VERSION_NUMBER 100 /* 10,000 times the major number, 100 times the minor one, and the patch */
 
@@ -92,22 +97,32 @@ typedef struct {
 typedef struct {
     size_t size;       /* sizeof(graphql_checked_options) */
     size_t nesting;    /* how many brackets may be open at once; 0: GRAPHQL_CHECKED_NESTING */
-    size_t stack;      /* bytes of stack that each calling thread has left at least; 0: the thread is asked at each call. It must
-                        * be told where a call runs on a stack that the program made by itself, and none of the thread's */
-    size_t max_faults; /* how many faults a report has at most; 0: all that a check tells, at most 1,000 of the rules */
-    size_t form;       /* GRAPHQL_CHECKED_JSON or GRAPHQL_CHECKED_TEXT */
+    size_t stack;      /* bytes of stack that each calling thread has left at least; 0: the thread is asked at each call. Tell it
+                        * where calls run on a stack that is not the thread's own, as of coroutines or `sigaltstack`: with 0 they
+                        * answer STACK there */
+    size_t max_faults; /* how many faults a report has at most; 0: all. A check stops after 1,000 breaches of rules, but tells
+                        * every unknown name. The report is made whole, and then cut */
+    size_t form;       /* GRAPHQL_CHECKED_JSON, which is 0, or GRAPHQL_CHECKED_TEXT */
 } graphql_checked_options;
 
 /* The nesting where the options tell none. Proved, it takes 512 KB of stack; without proofs 960 KB. */
 #define GRAPHQL_CHECKED_NESTING 398
 
-/* A report as lines of JSON, an object and a line feed for each fault, in the order of texts and places: `path`; `line`, `column`,
- * `end`, `offset` and `length`, null where there is no place; `rule`, `message`, `hint`, which may be null; `related`, other places
- * with `path`, `line`, `column` and `words`; `fields`, the data of the fault. Lines and columns count from 1, columns in
- * characters, offsets from 0 in bytes. `rule` is a name of docs/RULES.md, or `SyntaxError` or the like where a text is not read. */
+/* A report as lines of JSON in UTF-8, an object and a line feed for each fault, in the order of texts and places:
+ *   path            the text's name; `<built in>` for what is built in; `schema` or the document's name where there is no place
+ *   line, column    both from 1; columns count code points. These and the next three are null where there is no place in a text
+ *   end             an object with the `line` and `column` of the place after the last character
+ *   offset, length  in bytes; the offset from 0
+ *   rule            a name of docs/RULES.md, which is installed in share/doc/graphql-checked; or `Syntax` where a text is not
+ *                   read, `Nesting` or `RecursionLimitError` past a limit, `Spent` where numbers ran out
+ *   message, hint   strings; `hint` may be null
+ *   related         a list of other places that belong to it: objects with `path`, `line`, `column` and `words`
+ *   fields          its data, as `type_name`: an object of strings
+ * In strings quotes, backslashes and the characters below U+0020 are escaped, and nothing else. */
 #define GRAPHQL_CHECKED_JSON 0
 /* A report as the program graphql-checked writes it: `refused`, and a line for each fault, with the number of the text, from 1, the
- * offset in it, and the message. The texts of the schema come first, then the document. */
+ * offset in it, and the message; `-` in place of both numbers where there is no place. The texts of the schema come first, then the
+ * document. */
 #define GRAPHQL_CHECKED_TEXT 1
 
 /* The options where a call is given none. */

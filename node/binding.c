@@ -114,7 +114,7 @@ static napi_value open_schema(napi_env env, napi_callback_info info) {
         it->users = 1;
         napi_type_tag_object(env, external, &tag);
         napi_set_named_property(env, made, "handle", external);
-        account(env, it, (int64_t)(10 * size + (64 << 10))); /* by measure */
+        account(env, it, (int64_t)(13 * size + (64 << 10))); /* by measure */
     } else if (it) {
         graphql_checked_close(&it->schema);
         free(it);

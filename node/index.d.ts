@@ -10,6 +10,7 @@ export interface Position {
 
 /** Another place that belongs to a fault. */
 export interface Related {
+    /** The path of the text; `<built in>` for what is built in. */
     path: string;
     line: number | null;
     column: number | null;
@@ -19,6 +20,7 @@ export interface Related {
 
 /** What is wrong, and where. What is built in has no place. */
 export interface Fault {
+    /** The path of the text; `<built in>` for what is built in. */
     path: string;
     line: number | null;
     column: number | null;
@@ -28,7 +30,8 @@ export interface Fault {
     offset: number | null;
     /** In bytes. */
     length: number | null;
-    /** A name of docs/RULES.md; `Syntax` where a text is not read. */
+    /** A name of docs/RULES.md; or `Syntax` where a text is not read, `Nesting` or `RecursionLimitError` past a limit, `Spent` where
+     * numbers ran out. */
     rule: string;
     message: string;
     related: Related[];
@@ -65,9 +68,10 @@ export class Schema {
     /** Throws RefusedError where the texts are refused. */
     constructor(texts: Text | { text: Text; path?: string } | (Text | { text: Text; path?: string })[], options?: Options);
     check(document: Text, options?: { path?: string }): Report;
-    /** The same on a thread of Node's pool, one after another, in order. Until all are done the other calls throw ERR_BUSY. */
+    /** The same on a thread of Node's pool, one after another, in order. Until all are done the other calls throw ERR_BUSY. What
+     * `check` throws, the promise is rejected with. */
     checkLater(document: Text, options?: { path?: string }): Promise<Report>;
-    /** The canonical text of the schema, under so many spaces, or an indent of spaces and tabs; on one line for null. */
+    /** The canonical text of the schema, under so many spaces, or an indent of spaces and tabs, at most 98; on one line for null. */
     text(indent?: number | string | null): string;
     /** The canonical text of a document. Throws RefusedError where it is refused. */
     documentText(document: Text, indent?: number | string | null, options?: { path?: string }): string;

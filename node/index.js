@@ -2,6 +2,7 @@
 const addon = require("./graphql_checked.node");
 
 const NOT_UTF8 = 3, MEMORY = 4, STACK = 5, INDENT = 8, CLOSED = 9, BUSY = 11;
+const LONGEST_INDENT = 98; // as binding.c has room for
 const CODES = { [NOT_UTF8]: "ERR_NOT_UTF8", [MEMORY]: "ERR_OUT_OF_MEMORY", [STACK]: "ERR_STACK", [INDENT]: "ERR_INDENT", [CLOSED]: "ERR_CLOSED", [BUSY]: "ERR_BUSY" };
 
 /** Texts are refused, where a schema or a text was asked for. */
@@ -20,9 +21,12 @@ function faultText(fault) {
     return `${place}${fault.rule}: ${fault.message}${fault.hint === null ? "" : ` (${fault.hint})`}`;
 }
 
-/** The bytes of a text. */
+/** The bytes of a text. A string with half a pair of surrogates is no text: its bytes would be those of another. */
 function bytesOf(text) {
-    if (typeof text === "string") return Buffer.from(text, "utf8");
+    if (typeof text === "string") {
+        if (/\p{Surrogate}/u.test(text)) throw failure(NOT_UTF8);
+        return Buffer.from(text, "utf8");
+    }
     if (Buffer.isBuffer(text)) return text;
     if (text instanceof Uint8Array) return Buffer.from(text.buffer, text.byteOffset, text.byteLength);
     throw new TypeError(`a text is to be a string, a Buffer or a Uint8Array, not ${text === null ? "null" : typeof text}`);
@@ -36,7 +40,9 @@ function limitOf(number, what) {
 /** The indent of a line, and null for one line. */
 function indentOf(indent) {
     if (indent === null) return null;
-    return typeof indent === "number" ? " ".repeat(limitOf(indent, "an indent")) : String(indent);
+    if (typeof indent !== "number" && typeof indent !== "string") throw new TypeError(`an indent is to be a number, a string or null, not ${typeof indent}`);
+    if ((typeof indent === "number" ? limitOf(indent, "an indent") : indent.length) > LONGEST_INDENT) throw new RangeError(`an indent is to have at most ${LONGEST_INDENT} characters`);
+    return typeof indent === "number" ? " ".repeat(indent) : indent;
 }
 
 class Schema {
@@ -62,14 +68,15 @@ class Schema {
     }
 
     /** The same on a thread of Node's pool; one after another, in order. */
-    checkLater(document, { path = "document" } = {}) {
+    async checkLater(document, { path = "document" } = {}) {
         const bytes = Buffer.from(bytesOf(document));
         this.#open(true);
         this.#waiting++;
         const ask = () => addon.checkLater(this.#open(true), this.#name(), bytes);
         const asked = this.#last.then(ask).finally(() => this.#waiting--);
         this.#last = asked.catch(() => {});
-        return asked.then(({ status, told }) => this.#report(status, told, path));
+        const { status, told } = await asked;
+        return this.#report(status, told, path);
     }
 
     /** The canonical text of the schema. */

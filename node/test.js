@@ -45,7 +45,13 @@ function wrong() {
     assert.strictEqual(codeOf(() => schema.check(Buffer.from([0xff]))), "ERR_NOT_UTF8");
     assert.strictEqual(codeOf(() => new Schema(SHOP, { nesting: 2 ** 40 })), "ERR_STACK");
     assert.strictEqual(codeOf(() => new Schema(SHOP, { nesting: -1 })), "RangeError");
+    assert.strictEqual(codeOf(() => schema.check("{ a } # \ud800")), "ERR_NOT_UTF8");
+    assert.strictEqual(codeOf(() => new Schema("# \udc00\ud800")), "ERR_NOT_UTF8");
+    assert.deepStrictEqual(schema.check("{ product { id } } # \ud83d\ude00").faults, []);
     assert.strictEqual(codeOf(() => schema.text("-")), "ERR_INDENT");
+    assert.strictEqual(schema.text(98).split("\n")[1], `${" ".repeat(98)}product: Product`);
+    for (const indent of [99, " ".repeat(99)]) assert.strictEqual(codeOf(() => schema.text(indent)), "RangeError");
+    for (const indent of [{}, true]) assert.strictEqual(codeOf(() => schema.text(indent)), "TypeError");
     // other externals, and objects, are no handles
     for (const value of [{}, 5, null, process.binding ? Object.create(null) : {}, Buffer.from("a")]) {
         assert.throws(() => addon.check(value, "1", Buffer.from("{ a }")), TypeError);
@@ -63,6 +69,8 @@ async function later() {
     const counts = (await Promise.all(all)).map(({ faults }) => faults.length);
     assert.deepStrictEqual(counts, documents.map((_, index) => (index % 2 ? 0 : index + 1)));
     await assert.rejects(schema.checkLater(Buffer.from([0xff])), { code: "ERR_NOT_UTF8" });
+    await assert.rejects(schema.checkLater("\ud800"), { code: "ERR_NOT_UTF8" });
+    await assert.rejects(schema.checkLater(5), TypeError);
     const last = schema.checkLater("{ a }");
     schema.close();
     await assert.rejects(last, { code: "ERR_CLOSED" });

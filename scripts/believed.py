@@ -11,7 +11,7 @@ inner crate those of that crate, and the functions that C calls. A clause reache
 An invariant of a public type speaks of its private fields: what follows from it is had by a clause of some call. So what
 invariants alone reach is printed behind, and counts for nothing.
 
---names prints the reached definitions of each file too. --why FILE (a path or a name such as `Listed`) prints by which
+--names prints the reached definitions of each file too. --why FILE (a path or a name such as `NumberedDefinition`) prints by which
 definitions a clause leads to it. --of NAME prints how much a definition rests on: the definitions that it reaches, their files,
 and their lines without comments, those of the book apart. --others prints the files that nothing reaches so and that do not say that they are private:
 those of laws (of crates and sources of laws), of public functions of inner crates, and the rest. --write writes the two lists of

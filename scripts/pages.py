@@ -2,12 +2,13 @@
 """Whether the pages say what is there: scripts/pages.py [--check] [--clauses]
 
 --check prints what is wrong, a line each, and its status is then 1: README.md has more than 150 lines or 900 words, or all pages
-(*.md at the top and in docs/) have more than 25,000 words; a page, a page of a crate (crates/**/*.md), or a doc comment (`///`,
-`//!`) of a crate's src/ has a word that the last table of CONTRIBUTING.md refuses; a relative link of a page leads to no file; a name that reads as a crate of the
+(*.md at the top and in docs/) have more than 22,000 words; a page, a page of a crate (crates/**/*.md), or a comment of a crate's
+src/ or specs/ or of a script has a word that the last table of CONTRIBUTING.md refuses; a relative link of a page leads to no file; a name that reads as a crate of the
 repository is not in crates.txt; one in backticks that reads as a file (`name.rt`, `Name.antt`, `name.rows`, `name.edit`,
 `name.py`) is the name of no file; a table of docs/PROMISES.md names a function, a clause or a definition that is not there;
 docs/PROMISES.md or docs/MAP.md says nothing of a crate of crates.txt; a line of a block after `<!-- from PATH -->` is not in that
-file, after the lines before it; a public clause is longer than 160 characters.
+file, after the lines before it; a public clause is longer than 160 characters. crates/README.md is read as a page is, but its words are
+not counted: they are those of the sources.
 
 What reads as a crate: a word that begins with `graphql_` and is none of the header for C; one that begins as the crates of an area do (`tree_`, `read_`, ..), if the
 sources have nothing else of that name, neither an item, a definition nor a file; and, whatever it begins with, a name in backticks
@@ -25,13 +26,13 @@ from sources import TOP
 
 LINES = 150
 CHARACTERS = 160
-README_WORDS, ALL_WORDS = 900, 25000
+README_WORDS, ALL_WORDS = 900, 22000
 
 # the line after which CONTRIBUTING.md has the words that pages and doc comments must not have.
 WORDS = "<!-- the words that scripts/pages.py refuses -->"
 
-# The page that a script makes from the comments of specs/: it has their words.
-MADE = ["docs/DEFINITIONS.md"]
+# The page that a script makes from the heads of the crates: its words are not counted.
+PLAN = "crates/README.md"
 
 
 def pages():
@@ -165,8 +166,6 @@ def prose(path, text):
 
 def badly_worded(path, text, refused):
     """The words of a text that are refused."""
-    if path in MADE:
-        return
     shown = prose(path, text)
     for pattern, use in refused:
         for found in pattern.finditer(shown):
@@ -174,19 +173,24 @@ def badly_worded(path, text, refused):
             yield f"{path}:{number}: `{' '.join(found.group(0).split())}`: write: {use}"
 
 
-def doc_comments(text):
-    """The lines of a source: of a doc comment its text, and of all else nothing."""
+def comments(text, mark):
+    """The lines of a source: of a comment on a line of its own its text, and of all else nothing."""
     for line in text.split("\n"):
-        found = re.match(r"\s*//[/!](?!/)(.*)", line)
+        found = re.match(rf"\s*{mark}[/!]?(?!/)(.*)", line)
         yield found.group(1).removeprefix(" ") if found else ""
 
 
 def badly_commented(refused):
-    """The words that are refused, in the pages of crates and in the doc comments of their sources (crates/*/src)."""
+    """The words that are refused, in the pages of crates, in the comments of their sources and definitions, and in those of scripts."""
     for path in sources.paths("crates/*/*.md") + sources.paths("crates/*/*/*.md"):
         yield from badly_worded(path, sources.read(path), refused)
     for path in sources.paths("crates/*/src/*.rt"):
-        yield from badly_worded(path, "\n".join(doc_comments(sources.read(path))), refused)
+        yield from badly_worded(path, "\n".join(comments(sources.read(path), "//")), refused)
+    for path in sources.paths("crates/*/specs/*.antt"):
+        yield from badly_worded(path, "\n".join(comments(sources.read(path), "--")), refused)
+    for path in sources.paths("scripts/*"):
+        if os.path.isfile(os.path.join(TOP, path)):
+            yield from badly_worded(path, "\n".join(comments(sources.read(path), "#")), refused)
 
 
 def left_out(crates):
@@ -220,9 +224,10 @@ def main(words):
     if lines > LINES:
         wrong.append(f"README.md has {lines} lines, more than {LINES}")
     refused, counts = list(refused_words()), {}
-    for path in pages():
+    for path in pages() + sources.paths(PLAN):
         text = sources.read(path)
-        counts[path] = len(text.split())
+        if path != PLAN:
+            counts[path] = len(text.split())
         wrong += badly_worded(path, text, refused)
         wrong += broken_links(path, text)
         wrong += unknown_crates(path, text, crates, others)

@@ -150,6 +150,8 @@ def printed(folder, form, case):
         return None
     entries = []
     for line in done.stdout.splitlines():
+        if form == "json" and "rule" not in json.loads(line):
+            continue  # a record of a document, or the summary
         if form == "json" or re.search(r": error\[\w+\]: ", line):
             entries.append([])
         entries[-1].append(line)

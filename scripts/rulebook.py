@@ -24,7 +24,7 @@ from variants import (
 )
 
 BOOK = "docs/rulebook.txt"
-SAME = "crates/fault_lists/proofs/"
+SAME = "crates/graphql_faults/proofs/"
 STAGES = ["folding", "schemas", "typing", "documents", "merging"]
 
 
@@ -261,7 +261,7 @@ def data_parts(e):
 
 
 def document_parts(e):
-    code, specs = "crates/fault_document_data/src/", "crates/fault_document_data/specs/"
+    code, specs = "crates/fault_document_errors/src/", "crates/fault_document_errors/specs/"
     unplacing = "crates/rule_document_definitions/specs/FaultsUnplaced.antt"
     yield Part(code + "build_error.rt", "enum BuildError", inside("pub enum BuildError {"), variant_lines(e))
     yield Part(code + "build_error.rt", "Drop for BuildError", inside("impl Drop for BuildError {", "match self {"), drop_lines("BuildError", e))
@@ -279,11 +279,11 @@ def document_parts(e):
     yield Part(SAME + "BreachEquality.antt", "number", below("abbrev number "), equations("number", e, "breach.", lambda entry: numbers[entry.name], alphabet))
     yield Part(SAME + "BreachEquality.antt", "breach_eq-Decides", below("pub breach_eq-Decides "),
                decided_lines("breach_eq-Decides", e, "breach.", lambda entry, reason: reason))
-    front = "use Rattle.fault_document_data.specs.DocumentBreaches.{DocumentBreach, "
+    front = "use Rattle.fault_document_errors.specs.DocumentBreaches.{DocumentBreach, "
     yield Part(specs + "DocumentMessages.antt", "the import", line(front), imported(front, e))
     yield Part(specs + "DocumentMessages.antt", "document_message", below("  abbrev pub document_message "),
                equations("document_message", e, "", lambda entry: message_text(entry, document_gap_words(entry)), indent="  "))
-    front = "use Rattle.fault_document_data.specs.DocumentBreaches.{Selected, DocumentBreach, "
+    front = "use Rattle.fault_document_errors.specs.DocumentBreaches.{Selected, DocumentBreach, "
     yield Part(unplacing, "the import", line(front), imported(front, e))
     yield Part(unplacing, "unplaced_breach", below("  abbrev pub unplaced_breach "), equations("unplaced_breach", e, "", unplaced, indent="  "))
 

@@ -11,9 +11,9 @@ REPORT is the built program of `graphql_report_program`. It answers batches of 1
 each tenth is refused, over a schema of 780 types described at length. A line tells the seconds, and the most memory held.
 
 FILE is libgraphql_checked.so, as scripts/c_library makes it. The same documents go over one handle on the same schema, by the
-function for C alone and by the Python package. A line each tells processor seconds by the call, and documents a second."""
+function for C, called from Python, and by the Python package; then that function is called without a document, which tells what a
+call from Python costs. A line each tells microseconds of processor time a call, and calls a second."""
 
-import ctypes
 import json
 import os
 import re
@@ -356,25 +356,25 @@ def library(path, count=20000):
     """Prints what a schema, a document over it and a call cost by the library at a path."""
     sys.path.insert(0, os.path.join(sources.TOP, "python"))
     import graphql_checked
+    from graphql_checked._library import Answer, text_bytes
 
     used, texts = graphql_checked.Library(path), [json.loads(line(number))["document"] for number in range(1, count + 1)]
-    raw = [text.encode() for text in texts]
+    documents = [text_bytes(text.encode(), "q") for text in texts]
     begun = time.process_time()
     schema = graphql_checked.Schema(described(780), library=used)
-    opened, handle = time.process_time(), ctypes.byref(schema._handle)
-    room, needed = ctypes.create_string_buffer(4096), ctypes.c_size_t()
-    place, function = ctypes.byref(needed), used.functions.graphql_schema_check
-    statuses = [function(handle, text, len(text), room, 4096, place) for text in raw]
+    opened, function = time.process_time(), used.functions.graphql_checked_check
+    handle, answer = schema._handle, Answer()
+    statuses = [function(handle, document, answer) for document in documents]
     called = time.process_time()
     reports = [schema.check(text) for text in texts]
     checked = time.process_time()
     for _ in texts:
-        function(handle, None, 1, room, 4096, place)
+        function(handle, None, answer)
     empty = time.process_time()
     if statuses != [int(not report) for report in reports] or statuses.count(1) != count // 10:
         sys.exit("speed.py: the answers are not as wanted")
     print(f"schema opened in {opened - begun:.3f} s")
-    for name, seconds in (("graphql_schema_check", called - opened), ("Schema.check", checked - called), ("a call alone", empty - checked)):
+    for name, seconds in (("a call without a document", empty - checked), ("Schema.check", checked - called), ("graphql_checked_check", called - opened)):
         print(f"{name}: {seconds / count * 1e6:.1f} us, {count / seconds:,.0f} a second", flush=True)
 
 

@@ -45,7 +45,7 @@ TYPES = {
     "Vec<Node<FragmentSpread>>": trace_type("SpreadTree", "plain_spread"),
 }
 
-# The lemma by which `==` of such data decides whether contracts see the same of them (`Parts` and `DataParts` of fault_lists).
+# The lemma by which `==` of such data decides whether contracts see the same of them (`Parts` and `DataParts` of graphql_faults).
 DECIDES = {
     "place": "place_decides {0} {1}",
     "places": "pointwise_decides place_decides {0}.items {1}.items",
@@ -225,7 +225,7 @@ def owned(entry):
     return [field for field in entry.data if field.known().copied]
 
 
-# what the names are under which the arm of a `Drop` lets go of what several variants own
+# what the names are under which the arm of a `Drop` drops what several variants own
 LET_GO = {("Name",): ["_name"], ("Name", "places"): ["_name", "_places"], ("String",): ["_text"]}
 
 

@@ -1,5 +1,6 @@
 /* Wrong calls, and calls whose answers are known:
- * abuse [bytes N | stack | small | threads | shared N | fork | signal | opens N | documents N [SCHEMA [DOCUMENT]] | handles N [SCHEMA]]
+ * abuse [bytes N | stack | small | files | room | threads | shared N | fork | signal | opens N | documents N [SCHEMA [DOCUMENT]] |
+ *        handles N [SCHEMA]]
  *
  * A difference is told with its line, and ends the program with 1. Each text ends where memory ends, so that a byte too far ends the
  * program too. Without a word it compares answers. It is also run by scripts/refused.py --library, which refuses requests for
@@ -8,6 +9,8 @@
  *   bytes N        documents cut at each byte, and N with some other bytes: all ways of asking give the same
  *   stack          the deepest texts on threads of 512 KB and of 1 MB; without proofs, of 960 KB and 2 MB
  *   small          threads of 128 KB, which are asked for their stack: too deep a nesting is told, a small one is judged
+ *   files          where no file can be opened, and so /proc not be read, the first thread's stack is found too
+ *   room           an answer of less than 512 KB is made once, and the room of a longer one is given back
  *   threads        four threads, each with its own handle
  *   shared N       four threads with one handle, which ask it N times each: each is answered, or told that it is busy
  *   fork           children that are forked while another thread is in a call: each ends with an answer
@@ -15,7 +18,9 @@
  *   opens N        N handles opened and closed: nothing is left of them
  *   documents N    N documents that are accepted over one handle, and N that are refused: nothing is left of them. Tells how much
  *                  processor time each takes. SCHEMA and DOCUMENT are files, in place of small texts
- *   handles N      N handles on one schema: tells how much memory each takes */
+ *   handles N      N handles on one schema: tells how much memory each takes
+ *
+ * It is linked with --wrap=malloc, so that requests for memory are counted. */
 #define _GNU_SOURCE
 #include "graphql_checked.h"
 
@@ -26,6 +31,7 @@
 #include <stdlib.h>
 #include <string.h>
 #include <sys/mman.h>
+#include <sys/resource.h>
 #include <sys/time.h>
 #include <sys/wait.h>
 #include <time.h>
@@ -37,6 +43,13 @@ static char *end_of[AREAS];                   /* where the memory of each area e
 static int memory_is_refused, is_each, told;  /* by scripts/refused.py; how often MEMORY was the answer */
 static graphql_checked_status status;
 static graphql_checked_answer answer;
+static char figures[200]; /* what is told last */
+static unsigned long requests;
+
+/* Counts a request for memory, of the library too. */
+void *__real_malloc(size_t size);
+void *__wrap_malloc(size_t size);
+void *__wrap_malloc(size_t size) { return __atomic_add_fetch(&requests, 1, __ATOMIC_RELAXED), __real_malloc(size); }
 
 /* Makes the areas: after each is a page that nobody may touch. */
 static void make_areas(void) {
@@ -231,12 +244,18 @@ static size_t lines_of(void) {
     return lines;
 }
 
+/* Makes a document of so many fields that no schema here has. */
+static graphql_checked_text unknown_fields(int count) {
+    static char many[1 << 18];
+    char *at = many + sprintf(many, "{");
+    for (int i = 0; i < count; i++) at += sprintf(at, " f%d", i);
+    at += sprintf(at, " }");
+    return (graphql_checked_text){many, (size_t)(at - many), 0};
+}
+
 /* Options, one by one, and reports of many faults. */
 static void options(void) {
-    static char many[8000] = "{";
-    for (int i = 0; i < 300; i++) sprintf(many + strlen(many), " f%d", i);
-    strcat(many, " }");
-    graphql_checked_text document = {many, strlen(many), 0};
+    graphql_checked_text document = unknown_fields(300);
     for (size_t form = 0; form < 2; form++)
         for (size_t most = 0; most < 400; most += most < 3 ? 1 : 190) {
             graphql_checked_schema schema = {0};
@@ -433,6 +452,25 @@ static void small(void) {
     }
 }
 
+/* Where no file can be opened, a call on the first thread is judged as the limit of the stack says. */
+static void files(void) {
+    struct rlimit none = {0, 0}, stack;
+    graphql_checked_schema schema = {0};
+    graphql_checked_options given = AS_JSON;
+    if (setrlimit(RLIMIT_NOFILE, &none) || fopen("/proc/self/maps", "r") || getrlimit(RLIMIT_STACK, &stack)) exit(2);
+    if (stack.rlim_cur > 64 << 20) stack.rlim_cur = 64 << 20;
+    for (given.nesting = 1; graphql_checked_stack(given.nesting) <= stack.rlim_cur; given.nesting *= 2) {}
+    ASK(GRAPHQL_CHECKED_STACK, graphql_checked_open(&schema, A_FIELD, 1, &given, &answer));
+    given.nesting = 398;
+    ASK(GRAPHQL_CHECKED_ACCEPTED, graphql_checked_open(&schema, A_FIELD, 1, &given, &answer));
+    TELLS(GRAPHQL_CHECKED_REFUSED, JSON_AT("document"), graphql_checked_check(&schema, DOC("{ missing }"), &answer));
+    ASK(GRAPHQL_CHECKED_ACCEPTED, graphql_checked_close(&schema));
+    for (size_t kind = 0; kind < KINDS; kind++) {
+        kinds[kind].stack = 0, kinds[kind].nesting = 398;
+        judged(&kinds[kind]);
+    }
+}
+
 #define FIELD {"type Query { a: Int }", 21, 0}
 
 static void *own_handle(void *unused) {
@@ -463,12 +501,22 @@ static graphql_checked_schema one_handle;
 static int is_over;
 static long asks = 20000;
 static unsigned long answered, busy;
+static graphql_checked_text accepted = {"{ a }", 5, 0};
+
+/* Makes a document of 5,000 fields. */
+static graphql_checked_text long_document(void) {
+    static char many[15002];
+    many[0] = '{';
+    for (int i = 0; i < 5000; i++) memcpy(many + 1 + 3 * i, " a ", 3);
+    many[15001] = '}';
+    return (graphql_checked_text){many, sizeof many, 0};
+}
 
 /* Asks one handle, whoever else does. Its answer is not read, since it belongs to whoever asks last. */
 static void *asks_one(void *unused) {
-    const graphql_checked_text right = {"{ a }", 5, 0}, wrong = {"{ missing }", 11, 0};
+    const graphql_checked_text wrong = {"{ missing }", 11, 0};
     for (long i = 0; i < asks && !__atomic_load_n(&is_over, __ATOMIC_SEQ_CST); i++) {
-        graphql_checked_status found = graphql_checked_check(&one_handle, i % 2 ? &right : &wrong, 0);
+        graphql_checked_status found = graphql_checked_check(&one_handle, i % 2 ? &accepted : &wrong, 0);
         if (found == GRAPHQL_CHECKED_BUSY) __atomic_add_fetch(&busy, 1, __ATOMIC_RELAXED);
         else if (found == (i % 2 ? GRAPHQL_CHECKED_ACCEPTED : GRAPHQL_CHECKED_REFUSED)) __atomic_add_fetch(&answered, 1, __ATOMIC_RELAXED);
         else if (found != GRAPHQL_CHECKED_CLOSED || !__atomic_load_n(&is_over, __ATOMIC_SEQ_CST)) differs(__LINE__, "status", found, i % 2);
@@ -481,29 +529,35 @@ static void open_one_handle(void) {
     if (graphql_checked_open(&one_handle, &text, 1, 0, 0)) differs(__LINE__, "open", 1, 0);
 }
 
-/* Four threads with one handle, which is closed while they ask. */
-static void shared(long count) {
+/* Four threads with one handle, which is closed while they ask if `is_closed` is true. */
+static void four_with_one(int is_closed) {
     pthread_t four[4];
-    asks = count;
-    for (int round = 0; round < 5; round++) {
-        __atomic_store_n(&is_over, 0, __ATOMIC_SEQ_CST);
-        open_one_handle();
-        for (int i = 0; i < 4; i++)
-            if (pthread_create(&four[i], 0, asks_one, 0)) exit(2);
-        if (round % 2) {
-            usleep(20000);
-            __atomic_store_n(&is_over, 1, __ATOMIC_SEQ_CST);
-            while (graphql_checked_close(&one_handle) == GRAPHQL_CHECKED_BUSY) usleep(10);
-        }
-        for (int i = 0; i < 4; i++) pthread_join(four[i], 0);
-        graphql_checked_close(&one_handle);
+    __atomic_store_n(&is_over, 0, __ATOMIC_SEQ_CST);
+    open_one_handle();
+    for (int i = 0; i < 4; i++)
+        if (pthread_create(&four[i], 0, asks_one, 0)) exit(2);
+    if (is_closed) {
+        usleep(20000);
+        __atomic_store_n(&is_over, 1, __ATOMIC_SEQ_CST);
+        while (graphql_checked_close(&one_handle) == GRAPHQL_CHECKED_BUSY) usleep(10);
     }
+    for (int i = 0; i < 4; i++) pthread_join(four[i], 0);
+    graphql_checked_close(&one_handle);
+}
+
+/* Such threads in five rounds. valgrind runs one thread at a time, and short calls may end before another thread's turn: where none
+ * found the handle busy, rounds of long documents follow, each of which takes several turns. */
+static void shared(long count) {
+    asks = count;
+    for (int round = 0; round < 5; round++) four_with_one(round % 2);
+    asks = 10;
+    accepted = long_document();
+    for (int round = 0; round < 50 && !busy; round++) four_with_one(0);
     if (!answered || !busy) differs(__LINE__, "answers, and calls that found it busy", answered, busy);
 }
 
 /* Children that are forked while another thread asks. A child that hangs is ended by its alarm. */
 static void forked(void) {
-    const graphql_checked_text right = {"{ a }", 5, 0};
     pthread_t other;
     asks = 1L << 40;
     open_one_handle();
@@ -515,9 +569,9 @@ static void forked(void) {
             graphql_checked_schema own = {0};
             const graphql_checked_text text = FIELD;
             alarm(20);
-            graphql_checked_status found = graphql_checked_check(&one_handle, &right, 0);
+            graphql_checked_status found = graphql_checked_check(&one_handle, &accepted, 0);
             if (found && found != GRAPHQL_CHECKED_BUSY) _exit(1);
-            if (graphql_checked_open(&own, &text, 1, 0, 0) || graphql_checked_check(&own, &right, 0)) _exit(2);
+            if (graphql_checked_open(&own, &text, 1, 0, 0) || graphql_checked_check(&own, &accepted, 0)) _exit(2);
             _exit(graphql_checked_close(&own));
         }
         if (child < 0 || waitpid(child, &ended, 0) < 0 || ended) differs(__LINE__, "the child's end", (unsigned long)ended, 0);
@@ -539,12 +593,9 @@ static void asks_in_handler(int unused) {
 
 /* A handler that asks the handle that is asked. */
 static void signals(void) {
-    static char many[60000] = "{";
     struct sigaction action = {0};
     struct itimerval often = {{0, 500}, {0, 500}}, never = {{0, 0}, {0, 0}};
-    for (int i = 0; i < 5000; i++) strcat(many + 3 * i, " a ");
-    strcat(many, "}");
-    const graphql_checked_text long_one = {many, strlen(many), 0};
+    const graphql_checked_text long_one = long_document();
     action.sa_handler = asks_in_handler;
     open_one_handle();
     sigaction(SIGALRM, &action, 0);
@@ -594,6 +645,29 @@ enum { BEFORE = 100 };
 static void open_one(graphql_checked_schema *schema, const char *text, size_t length) {
     const graphql_checked_text one = {text, length, 0};
     ASK(GRAPHQL_CHECKED_ACCEPTED, graphql_checked_open(schema, &one, 1, 0, &answer));
+}
+
+/* How many requests for memory a document takes that is refused. */
+static unsigned long requests_of(graphql_checked_schema *schema, graphql_checked_text document, graphql_checked_answer *wanted) {
+    unsigned long before = requests;
+    ASK(GRAPHQL_CHECKED_REFUSED, graphql_checked_check(schema, &document, wanted));
+    return requests - before;
+}
+
+/* A report of 300 faults is made once, also the first time and where it is not wanted; the room of a report of 20,000 is given back
+ * once a short answer follows. */
+static void room(void) {
+    graphql_checked_schema schema = {0};
+    open_one(&schema, SMALL, sizeof SMALL - 1);
+    unsigned long unwanted = requests_of(&schema, unknown_fields(300), 0), first = requests_of(&schema, unknown_fields(300), &answer);
+    unsigned long again = requests_of(&schema, unknown_fields(300), &answer);
+    if (unwanted > again || first > again + 1) differs(__LINE__, "requests for memory", first > unwanted ? first : unwanted, again);
+    size_t before = held();
+    requests_of(&schema, unknown_fields(20000), &answer);
+    if (answer.length < 2 << 20 || lines_of() != 20000) differs(__LINE__, "lines of a long report", lines_of(), 20000);
+    TELLS(GRAPHQL_CHECKED_REFUSED, JSON_AT("document"), graphql_checked_check(&schema, DOC("{ missing }"), &answer));
+    if (held() > before + (1 << 20)) differs(__LINE__, "bytes that are held", held(), before);
+    graphql_checked_close(&schema);
 }
 
 /* So many handles, each asked and closed. */
@@ -648,7 +722,7 @@ static void documents(long count, const char *schema_path, const char *document_
     graphql_checked_close(&schema);
     free(text);
     free(document);
-    printf("schema of %zu bytes opened in %.0f us, a document accepted in %.1f us, refused in %.1f us\n", length, opened, each[0], each[1]);
+    sprintf(figures, ": schema of %zu bytes opened in %.0f us, a document accepted in %.1f us, refused in %.1f us", length, opened, each[0], each[1]);
 }
 
 /* So many handles on one schema. */
@@ -656,13 +730,13 @@ static void handles(long count, const char *schema_path) {
     size_t length;
     char *text = text_of(schema_path, SMALL, &length);
     graphql_checked_schema *all = calloc((size_t)count, sizeof *all);
-    size_t before = held();
+    long before = resident();
     if (!all) exit(2);
     for (long i = 0; i < count; i++) {
         open_one(&all[i], text, length);
         ASK(GRAPHQL_CHECKED_REFUSED, graphql_checked_check(&all[i], DOC("{ missing }"), &answer));
     }
-    printf("schema of %zu bytes: %ld handles hold %zu KB, each %zu KB\n", length, count, (held() - before) / 1024, (held() - before) / 1024 / (size_t)count);
+    sprintf(figures, ": %ld handles on a schema of %zu bytes take %ld KB of memory, each %ld KB", count, length, resident() - before, (resident() - before) / count);
     for (long i = 0; i < count; i++) graphql_checked_close(&all[i]);
     free(all);
     free(text);
@@ -680,6 +754,8 @@ int main(int argc, char **argv) {
     else if (!strcmp(word, "bytes")) other_bytes(count);
     else if (!strcmp(word, "stack")) deepest();
     else if (!strcmp(word, "small")) small();
+    else if (!strcmp(word, "files")) files();
+    else if (!strcmp(word, "room")) room();
     else if (!strcmp(word, "threads")) threads();
     else if (!strcmp(word, "shared")) shared(count);
     else if (!strcmp(word, "fork")) forked();
@@ -688,6 +764,6 @@ int main(int argc, char **argv) {
     else if (!strcmp(word, "documents")) documents(count, argc > 3 ? argv[3] : 0, argc > 4 ? argv[4] : 0);
     else if (!strcmp(word, "handles")) handles(count, argc > 3 ? argv[3] : 0);
     else return 2;
-    puts(told ? "as wanted, out of memory told" : "as wanted");
+    printf("as wanted%s%s\n", told ? ", out of memory told" : "", figures);
     return 0;
 }

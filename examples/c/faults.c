@@ -16,12 +16,30 @@ static graphql_checked_text read_file(const char *path) {
         exit(2);
     }
     graphql_checked_text text = {bytes, fread(bytes, 1, MOST, file), path};
+    if (ferror(file) || text.length == MOST) {
+        fprintf(stderr, "%s: cannot be read, or has 16 MB or more\n", path);
+        exit(2);
+    }
     fclose(file);
     return text;
 }
 
-/* Prints a member of a line's object: a number, or a string, with its escapes taken out as far as ASCII goes. What comes first
- * in the line is that of the fault, and within strings each quote has a backslash, so `"name":` is a member's name. */
+/* Prints what an escape stands for, whose letter is here, and tells where it ends. Only quotes, backslashes and characters below
+ * U+0020 are escaped. */
+static const char *print_escape(const char *at) {
+    static const char letters[] = "bfnrt", meant[] = "\b\f\n\r\t";
+    if (*at == 'u') {
+        const char digits[] = {at[3], at[4], 0};
+        putchar((int)strtol(digits, NULL, 16));
+        return at + 4;
+    }
+    const char *found = strchr(letters, *at);
+    putchar(found ? meant[found - letters] : *at);
+    return at;
+}
+
+/* Prints a member of a line's object: a number, or a string without its escapes. What comes first in the line is that of the fault,
+ * and within strings each quote has a backslash, so `"name":` is a member's name. */
 static void print_member(const char *line, const char *name, const char *before, const char *after) {
     char wanted[20];
     snprintf(wanted, sizeof wanted, "\"%s\":", name);
@@ -31,7 +49,9 @@ static void print_member(const char *line, const char *name, const char *before,
     if (*at != '"')
         while (*at >= '0' && *at <= '9') putchar(*at++);
     else
-        while (*++at != '"') putchar(*at == '\\' ? *++at : *at);
+        while (*++at != '"')
+            if (*at == '\\') at = print_escape(at + 1);
+            else putchar(*at);
     fputs(after, stdout);
 }
 

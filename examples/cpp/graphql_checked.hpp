@@ -24,6 +24,15 @@ struct Refused : std::runtime_error {
     explicit Refused(std::vector<Fault> all) : runtime_error("the schema is refused"), faults(std::move(all)) {}
 };
 
+// What an escape stands for: `at` is its letter, and then its last byte. Only quotes, backslashes and characters below U+0020 are
+// escaped.
+inline char unescaped(std::string_view line, size_t &at) {
+    constexpr std::string_view letters = "bfnrt", meant = "\b\f\n\r\t";
+    if (line[at] == 'u') return at += 4, static_cast<char>(std::stoi(std::string(line.substr(at - 1, 2)), nullptr, 16));
+    size_t found = letters.find(line[at]);
+    return found == letters.npos ? line[at] : meant[found];
+}
+
 // A member of a line's object, a number or a string; empty for null. Within strings each quote has a backslash, so `"name":` is a
 // member's name, and the first is that of the fault.
 inline std::string member(std::string_view line, std::string_view name) {
@@ -33,7 +42,7 @@ inline std::string member(std::string_view line, std::string_view name) {
         for (; line[at] >= '0' && line[at] <= '9'; at++) told += line[at];
         return told;
     }
-    for (at++; line[at] != '"'; at++) told += line[at] == '\\' ? line[++at] : line[at];
+    for (at++; line[at] != '"'; at++) told += line[at] == '\\' ? unescaped(line, ++at) : line[at];
     return told;
 }
 

@@ -50,7 +50,7 @@ func Proved() bool { return C.graphql_checked_proved() != 0 }
 
 // Text is a text in UTF-8, and the name that faults are to have for it.
 type Text struct {
-	Path  string // "schema" or "document" where it is empty
+	Path  string // "schema" or "document" where it is empty; it ends before a zero byte
 	Bytes []byte
 }
 
@@ -73,14 +73,14 @@ type Related struct {
 	Words string `json:"words"`
 }
 
-// Fault is what is wrong, and where. What is built in has no place: there each number is 0.
+// Fault is what is wrong, and where. Where there is no place in a text each number is 0; what is built in has the path `<built in>`.
 type Fault struct {
 	Path string `json:"path"`
 	Position
 	End     Position          `json:"end"`    // the place after its last character
 	Offset  int               `json:"offset"` // how many bytes of the text are before it
 	Length  int               `json:"length"` // in bytes
-	Rule    string            `json:"rule"`   // a name of docs/RULES.md; Syntax where a text is not read
+	Rule    string            `json:"rule"`   // a name of docs/RULES.md, or see GRAPHQL_CHECKED_JSON of the header
 	Message string            `json:"message"`
 	Related []Related         `json:"related"`
 	Hint    string            `json:"hint"` // what may be meant; empty where there is none
@@ -90,7 +90,10 @@ type Fault struct {
 // String is the fault in a line.
 func (f Fault) String() string {
 	var line strings.Builder
-	fmt.Fprintf(&line, "%s:%d:%d: %s: %s", f.Path, f.Line, f.Column, f.Rule, f.Message)
+	if f.Line > 0 {
+		fmt.Fprintf(&line, "%s:%d:%d: ", f.Path, f.Line, f.Column)
+	}
+	fmt.Fprintf(&line, "%s: %s", f.Rule, f.Message)
 	if f.Hint != "" {
 		fmt.Fprintf(&line, " (%s)", f.Hint)
 	}

@@ -2,6 +2,7 @@ package graphqlchecked
 
 import (
 	"errors"
+	"fmt"
 	"os"
 	"runtime"
 	"strings"
@@ -74,7 +75,7 @@ func TestRefusedSchemas(t *testing.T) {
 	if fault := refused.Faults[0]; fault.Path != "other.graphql" || fault.Rule != "OrphanTypeExtension" {
 		t.Error(fault)
 	}
-	if _, err := Open(); !errors.As(err, &refused) {
+	if _, err := Open(); !errors.As(err, &refused) || !strings.HasPrefix(refused.Faults[0].String(), "QueryRootOperationType: ") {
 		t.Error(err)
 	}
 }
@@ -142,24 +143,65 @@ func TestGoroutines(t *testing.T) {
 	}
 }
 
-// Schemas that nothing refers to are freed: 2,000 of them, each of some 300 KB, would take 600 MB.
+// Goroutines that close a pool at once: each of them comes back.
+func TestClosedAtOnce(t *testing.T) {
+	for i := 0; i < 200; i++ {
+		pool, err := NewPool(4, Options{}, text("type Query { a: Int }"))
+		if err != nil {
+			t.Fatal(err)
+		}
+		var group sync.WaitGroup
+		for j := 0; j < 4; j++ {
+			group.Add(1)
+			go func() {
+				defer group.Done()
+				pool.Close()
+				if _, err := pool.Check(text("{ a }")); err != Closed {
+					t.Error(err)
+				}
+			}()
+		}
+		group.Wait()
+	}
+}
+
+// collect has the garbage collector run, and waits until a finalizer of this call has run. Those of the call before have then too:
+// all run on one goroutine, those that were found earlier first.
+func collect() {
+	done := make(chan struct{})
+	runtime.SetFinalizer(&struct{ done chan struct{} }{done}, func(last *struct{ done chan struct{} }) { close(last.done) })
+	runtime.GC()
+	<-done
+}
+
+// resident is how many kilobytes of memory the process has.
+func resident(t *testing.T) (kilobytes int) {
+	t.Helper()
+	status, err := os.ReadFile("/proc/self/status")
+	if err != nil {
+		t.Fatal(err)
+	}
+	_, after, _ := strings.Cut(string(status), "VmRSS:")
+	if _, err := fmt.Sscan(after, &kilobytes); err != nil {
+		t.Fatal(err)
+	}
+	return kilobytes
+}
+
+// Schemas that nothing refers to are freed: 1,000 of them, each of some 300 KB, would take 300 MB.
 func TestFinalizers(t *testing.T) {
 	var long strings.Builder
 	for i := 0; i < 200; i++ {
 		long.WriteString("extend type Query { field" + strings.Repeat("x", i) + ": Int } ")
 	}
-	for i := 0; i < 300; i++ {
+	for i := 0; i < 1000; i++ {
 		open(t, text("type Query { a: Int }"), text(long.String()))
 		if i%20 == 0 {
-			runtime.GC()
+			collect()
 		}
 	}
-	runtime.GC()
-	status, _ := os.ReadFile("/proc/self/status")
-	for _, line := range strings.Split(string(status), "\n") {
-		if strings.HasPrefix(line, "VmRSS:") {
-			t.Log(line)
-		}
+	if kilobytes := resident(t); kilobytes > 200<<10 {
+		t.Error(kilobytes)
 	}
 }
 

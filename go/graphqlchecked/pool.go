@@ -5,12 +5,13 @@ import (
 	"sync"
 )
 
-// Pool has a schema's handles for goroutines that check at once. Each handle has the whole schema, some ten times its text in memory.
+// Pool has a schema's handles for goroutines that check at once. Each handle has the whole schema, in memory some 13 times its text.
 type Pool struct {
 	texts   []Text
 	options Options
 	slots   chan struct{} // as many as handles, one for each that is in use
-	mutex   sync.Mutex
+	closing sync.Mutex    // held by Close, which takes all slots
+	mutex   sync.Mutex    // of what follows
 	free    []*Schema
 	closed  bool
 }
@@ -28,19 +29,29 @@ func NewPool(size int, options Options, texts ...Text) (*Pool, error) {
 	return &Pool{texts: texts, options: options, slots: make(chan struct{}, size), free: []*Schema{first}}, nil
 }
 
-// take is a handle that is free, or a new one.
+// take is a handle that is free, or a new one. While that is opened, the others go on.
 func (p *Pool) take() (*Schema, error) {
+	schema, err := p.takeFree()
+	if schema != nil || err != nil {
+		return schema, err
+	}
+	return OpenWith(p.options, p.texts...)
+}
+
+// takeFree is a handle that is free, or nil where none is.
+func (p *Pool) takeFree() (*Schema, error) {
 	p.mutex.Lock()
 	defer p.mutex.Unlock()
 	if p.closed {
 		return nil, Closed
 	}
-	if last := len(p.free) - 1; last >= 0 {
-		schema := p.free[last]
-		p.free = p.free[:last]
-		return schema, nil
+	last := len(p.free) - 1
+	if last < 0 {
+		return nil, nil
 	}
-	return OpenWith(p.options, p.texts...)
+	schema := p.free[last]
+	p.free = p.free[:last]
+	return schema, nil
 }
 
 func (p *Pool) give(schema *Schema) {
@@ -63,6 +74,8 @@ func (p *Pool) Check(document Text) ([]Fault, error) {
 
 // Close frees all handles, and waits for those that are in use. Checks after that answer [Closed].
 func (p *Pool) Close() {
+	p.closing.Lock()
+	defer p.closing.Unlock()
 	for i := 0; i < cap(p.slots); i++ {
 		p.slots <- struct{}{}
 	}

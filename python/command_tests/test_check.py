@@ -143,7 +143,7 @@ def test_every_form(shop: Repository) -> None:
     assert (told["path"], told["line"], told["column"], told["end"]) == ("src/a.graphql", 2, 20, {"line": 2, "column": 24})
     assert (told["offset"], told["length"], told["rule"], told["message"]) == (21, 4, "UndefinedField", message)
     # GitHub's documented form of a workflow command
-    github = f"::error file=src/a.graphql,line=2,endLine=2,col=20,endColumn=24,title=UndefinedField::{message} (did you mean `name`?)"
+    github = f"::error file=src/a.graphql,line=2,endLine=2,col=20,endColumn=24,title=UndefinedField::{message}%0A= help: did you mean `name`?"
     assert shop.run("check", "--format", "github").lines == [github]
     log = json.loads(shop.run("check", "--format", "sarif").out)
     (result,) = log["runs"][0]["results"]

@@ -1,5 +1,5 @@
 """The forms are those of `graphql-report`, whose runs are in examples/report/runs.txt: line for line, but for the last, how much was
-found; GitHub's form has the hint, too, and JSON the severity. Left out are runs that cut what is printed, or name a file twice or one
+found, which JSON has as records; JSON has the severity, too. Left out are runs that cut what is printed, or name a file twice or one
 that is not there."""
 
 import json
@@ -11,7 +11,7 @@ import pytest
 from conftest import TOP, Repository
 
 
-LEFT_OUT = re.compile(r"[|<>]|--batch|--help|--version|--max-faults|none\.graphql|(\S+twice\S+) .*\1")
+LEFT_OUT = re.compile(r"[|<>]|--batch|--help|--version|--max-faults|--quiet|none\.graphql|(\S+twice\S+) .*\1")
 
 
 def runs() -> List[Tuple[str, List[str]]]:
@@ -23,13 +23,11 @@ def runs() -> List[Tuple[str, List[str]]]:
         elif line and not line.startswith("# ") and found:
             found[-1][1].append(line)
     plain = [(command, wanted) for command, wanted in found if command.startswith("./graphql-report") and not LEFT_OUT.search(command.replace(" 2>/dev/null", ""))]
-    return [(command.replace(" 2>/dev/null", ""), [it for it in wanted if not re.match(r"\d+ (fault|document)s?\b|schema accepted|\[\d\]$", it)]) for command, wanted in plain]
+    return [(command.replace(" 2>/dev/null", ""), [it for it in wanted if not re.match(r"\d+ (fault|document)s?\b|schema accepted|\[\d\]$|\{\"(document|summary)\":", it)]) for command, wanted in plain]
 
 
 def as_told(line: str, form: str) -> str:
     """A line of graphql-check as graphql-report has it."""
-    if form == "github":
-        return re.sub(r" \(did you mean [^()]*\)$", "", line)
     if form == "json":
         told = json.loads(line)
         assert told.pop("severity") == "error"

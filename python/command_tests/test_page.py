@@ -95,7 +95,7 @@ def test_the_steps_of_the_action(client: Repository, packages: Installed) -> Non
     assert [status for status, _ in act(outer, given)] == [0, 0, 0]
     client.write({"src/a.graphql": "query Nope {\n  nope\n}"})
     status, out = act(outer, given)[-1]
-    message = "`Query` has no field `nope` (did you mean `node`?)"
+    message = "`Query` has no field `nope`%0A= help: did you mean `node`?"
     assert (status, out) == (1, f"::error file=client/src/a.graphql,line=2,endLine=2,col=3,endColumn=7,title=UndefinedField::{message}\n")
     client.write({"src/a.graphql": "query More { __typename }"})
     assert [status for status, _ in act(outer, given)] == [0, 0, 1]

@@ -9,6 +9,7 @@ from typing import Any, Dict, List, Tuple
 from ._version import __version__
 
 NAME = "libgraphql_checked.so"
+LOADED = f"{NAME}.{__version__.rpartition('.')[0]}"  # by its SONAME: before 1.0.0 a new minor number may change anything
 
 
 class Status(enum.IntEnum):
@@ -61,19 +62,22 @@ def text_bytes(text: bytes, path: str) -> TextBytes:
 
 
 _handle, _text, _answer = ctypes.POINTER(Handle), ctypes.POINTER(TextBytes), ctypes.POINTER(Answer)
-_types: Dict[str, List[Any]] = {
-    "graphql_checked_version": [],
-    "graphql_checked_proved": [],
-    "graphql_checked_open": [_handle, _text, ctypes.c_size_t, ctypes.POINTER(Options), _answer],
-    "graphql_checked_check": [_handle, _text, _answer],
-    "graphql_checked_schema_text": [_handle, ctypes.c_char_p, _answer],
-    "graphql_checked_document_text": [_handle, _text, ctypes.c_char_p, _answer],
-    "graphql_checked_close": [_handle],
+_types: Dict[str, Tuple[Any, List[Any]]] = {
+    "graphql_checked_version": (ctypes.c_uint32, []),
+    "graphql_checked_proved": (ctypes.c_uint32, []),
+    "graphql_checked_build": (ctypes.c_char_p, []),
+    "graphql_checked_status_text": (ctypes.c_char_p, [ctypes.c_uint32]),
+    "graphql_checked_open": (ctypes.c_uint32, [_handle, _text, ctypes.c_size_t, ctypes.POINTER(Options), _answer]),
+    "graphql_checked_check": (ctypes.c_uint32, [_handle, _text, _answer]),
+    "graphql_checked_schema_text": (ctypes.c_uint32, [_handle, ctypes.c_char_p, _answer]),
+    "graphql_checked_document_text": (ctypes.c_uint32, [_handle, _text, ctypes.c_char_p, _answer]),
+    "graphql_checked_close": (ctypes.c_uint32, [_handle]),
 }
 
 
 class Library:
-    """The functions of the shared library at a path. Raises OSError where there is none, or where its version is another."""
+    """The functions of the shared library at a path. Raises OSError where there is none, where it is another library, or where its
+    version is another."""
 
     def __init__(self, path: str) -> None:
         self.path = path
@@ -81,13 +85,11 @@ class Library:
             self.functions = ctypes.CDLL(path)
         except OSError as error:
             raise OSError(f"{error}: scripts/c_library makes {NAME}, and GRAPHQL_CHECKED_LIBRARY names its path") from error
-        for name, types in _types.items():
-            function = getattr(self.functions, name)
-            function.argtypes, function.restype = types, ctypes.c_uint32
-        self.functions.graphql_checked_build.argtypes = []
-        self.functions.graphql_checked_build.restype = ctypes.c_char_p
-        self.functions.graphql_checked_status_text.argtypes = [ctypes.c_uint32]
-        self.functions.graphql_checked_status_text.restype = ctypes.c_char_p
+        for name, (result, types) in _types.items():
+            function = getattr(self.functions, name, None)
+            if function is None:
+                raise OSError(f"{path} is not {NAME} of version {__version__}: it has no {name}")
+            function.argtypes, function.restype = types, result
         if self.version != tuple(map(int, __version__.split("."))):
             raise OSError(f"{path} is of version {'.'.join(map(str, self.version))}, and this package of {__version__}")
 
@@ -98,9 +100,9 @@ class Library:
         scripts/install puts it, or the system's."""
         named = os.environ.get("GRAPHQL_CHECKED_LIBRARY")
         here = os.path.dirname(os.path.abspath(__file__))
-        places = [os.path.join(here, NAME), os.path.join(here, "../../.built/c", NAME), os.path.join(here, "../../..", NAME + ".0")]
+        places = [os.path.join(here, NAME), os.path.join(here, "../../.built/c", NAME), os.path.join(here, "../../..", LOADED)]
         there: List[str] = [place for place in places if os.path.exists(place)]
-        return Library(named or (there[0] if there else NAME + ".0"))
+        return Library(named or (there[0] if there else LOADED))
 
     @property
     def version(self) -> Tuple[int, int, int]:

@@ -10,7 +10,7 @@ class Related:
     """Another place that belongs to a fault."""
 
     path: Optional[str]
-    """The path that was given for its text; None for what is built in."""
+    """The path that was given for its text; None where none was given, and for what is built in."""
     line: Optional[int]
     """Its line, from 1, if it has a place."""
     column: Optional[int]
@@ -19,7 +19,8 @@ class Related:
     """What stands there."""
 
     def __str__(self) -> str:
-        return f"{self.path or '<built in>'}:{self.line}:{self.column}: {self.words}"
+        place = "<built in>" if self.line is None else f"{self.path or 'text'}:{self.line}:{self.column}"
+        return f"{place}: {self.words}"
 
 
 @dataclass(frozen=True)
@@ -27,7 +28,7 @@ class Fault:
     """What is wrong, and where. What is built in has no place."""
 
     path: Optional[str]
-    """The path that was given for the text."""
+    """The path that was given for the text; None where none was given."""
     text: Optional[int]
     """The number of the text, from 1: the schema texts in order, the document last."""
     line: Optional[int]
@@ -43,7 +44,8 @@ class Fault:
     length: Optional[int]
     """How many bytes long it is."""
     rule: str
-    """The rule of docs/RULES.md; `Syntax` where a text is not read, `Nesting` past the limit."""
+    """The rule of docs/RULES.md; or `Syntax` where a text is not read, `Nesting` or `RecursionLimitError` past a limit, `Spent` where
+    numbers ran out."""
     message: str
     """What is wrong."""
     hint: Optional[str]
@@ -54,7 +56,7 @@ class Fault:
     """Its data, as `type_name`."""
 
     def __str__(self) -> str:
-        place = "" if self.line is None else f"{self.path or self.text}:{self.line}:{self.column}: "
+        place = "" if self.line is None else f"{self.path or f'text {self.text}'}:{self.line}:{self.column}: "
         return f"{place}{self.rule}: {self.message}" + (f" ({self.hint})" if self.hint else "")
 
 

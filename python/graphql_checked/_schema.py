@@ -15,7 +15,7 @@ NESTING = 398
 
 
 class LibraryError(Exception):
-    """A call has no answer."""
+    """The base of this package's own errors."""
 
 
 class NotUtf8Error(LibraryError):
@@ -57,6 +57,12 @@ def _size(number: int, what: str) -> int:
     return number
 
 
+def _paths(paths: Iterable[Optional[str]]) -> List[Optional[str]]:
+    if isinstance(paths, (str, bytes)):
+        raise TypeError("paths are to be a list of str, one for each text")
+    return [_path(path) for path in paths]
+
+
 def _path(path: Optional[str]) -> Optional[str]:
     if path is not None and not isinstance(path, str):
         raise TypeError(f"a path is to be str, not {type(path).__name__}")
@@ -66,6 +72,8 @@ def _path(path: Optional[str]) -> Optional[str]:
 def _indent(indent: Union[int, str, None]) -> Optional[bytes]:
     if indent is None:
         return None
+    if isinstance(indent, bool) or not isinstance(indent, (int, str)):
+        raise TypeError(f"an indent is to be int, str or None, not {type(indent).__name__}")
     spaces = indent if isinstance(indent, str) else " " * _size(indent, "an indent")
     if "\0" in spaces:
         raise ValueError("an indent is to be of spaces and tabs")
@@ -76,13 +84,13 @@ class Schema:
     """The schema of some texts, kept for many documents.
 
     `texts` is a text, or several: str, or bytes in UTF-8. `paths` are names of them, which faults carry. `nesting` is how many
-    brackets may be open at once. `stack` is how many bytes of stack each calling thread has left at least; for 0 the thread is
-    asked. A report has at most `max_faults` faults, and for 0 all. Raises RefusedError where the texts are refused, NotUtf8Error,
+    brackets may be open at once; 0 means 398. `stack` is the least free stack, in bytes, of any thread that calls; for 0 each thread
+    is asked. A report has at most `max_faults` faults, and for 0 all. Raises RefusedError where the texts are refused, NotUtf8Error,
     StackError, MemoryError, or TypeError for what is no text.
 
-    It has a lock: threads wait for each other, and those that have a schema each do not. What a signal handler asks while the
-    same thread is in a call, and what a child asks that was forked while some thread was, is answered over the same texts, opened
-    again. Copies and pickles open the texts again too. It is closed as a context manager, by `close`, or when nothing refers to it.
+    Threads that share a Schema wait for each other; with one each they run at once. If a signal handler, or a child that was forked
+    during a call, checks a document, the texts are opened again for it: it always gets an answer. Copies and pickles open the texts
+    again too. A Schema is closed by `close`, at the end of a `with`, or when nothing refers to it.
     """
 
     def __init__(
@@ -100,7 +108,7 @@ class Schema:
         elif isinstance(texts, (bytearray, memoryview)):
             raise TypeError(f"a text is to be str or bytes, not {type(texts).__name__}")
         self._texts = [_encoded(text, "a text") for text in texts]
-        self._paths: List[Optional[str]] = [None] * len(self._texts) if paths is None else [_path(path) for path in paths]
+        self._paths: List[Optional[str]] = [None] * len(self._texts) if paths is None else _paths(paths)
         if len(self._paths) != len(self._texts):
             raise ValueError("there are to be as many paths as texts")
         self._limits = _size(nesting, "a nesting"), _size(stack, "a stack"), _size(max_faults, "a number of faults")
@@ -223,7 +231,8 @@ class Schema:
             self.close()
 
     def __repr__(self) -> str:
-        state = "closed" if self._handle is None else f"{len(self._texts)} texts"
+        count = len(self._texts)
+        state = "closed" if self._handle is None else f"{count} text" + "s" * (count != 1)
         return f"<graphql_checked.Schema: {', '.join([state, *filter(None, self._paths)])}>"
 
     def __reduce__(self) -> Tuple[object, ...]:
@@ -249,7 +258,8 @@ def check(
     max_faults: int = 0,
     library: Optional[Library] = None,
 ) -> Report:
-    """What is wrong with one schema text, or else with a document over it: faults have the paths `schema` and `document`."""
+    """Checks one document over one schema text: the schema's faults if it has any, else the document's. Faults have the paths
+    `schema` and `document`."""
     try:
         with Schema(schema, paths=["schema"], nesting=nesting, stack=stack, max_faults=max_faults, library=library) as held:
             return held.check(document, path="document")

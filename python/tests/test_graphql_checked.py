@@ -67,6 +67,14 @@ class TestPairs(unittest.TestCase):
         (fault,) = check("type Query { a: Missing }", "{ a }")
         self.assertEqual((fault.path, fault.text, fault.offset, fault.rule), ("schema", 1, 16, "UndefinedDefinition"))
 
+    def test_places_in_words(self) -> None:
+        with Schema(SHOP) as schema:
+            self.assertEqual(str(schema.check("{ product }")[0]).split(" ")[:3], ["text", "2:1:3:", "MissingSubselection:"])
+            (fault,) = schema.check("{ __type { name } }")
+            self.assertEqual(str(fault.related[0]), "<built in>: the definition")
+        (fault,) = check("type Query { a(b: Int!): Int }", "{ a }")
+        self.assertEqual(str(fault.related[0]), "schema:1:16: the definition")
+
     def test_columns_are_of_characters(self) -> None:
         (fault,) = check("type Query { a(b: String): Int }", '# \u00e9\r\n{ a(b: "\u00e9") c }')
         self.assertEqual((fault.offset, fault.line, fault.column), (19, 2, 13))
@@ -97,6 +105,10 @@ class TestPairs(unittest.TestCase):
                     Schema(text)
             with self.assertRaises(TypeError):
                 schema.check("{ a }", path=5)  # type: ignore[arg-type]
+            with self.assertRaisesRegex(TypeError, "an indent is to be int, str or None, not bytes"):
+                schema.text(b" ")  # type: ignore[arg-type]
+        with self.assertRaisesRegex(TypeError, "a list of str"):
+            Schema([FIELD, "extend type Query { b: Int }"], paths="ab")
 
     def test_nesting_and_stack(self) -> None:
         with self.assertRaises(StackError):
@@ -202,7 +214,7 @@ class TestSchemas(unittest.TestCase):
 
     def test_a_closed_schema(self) -> None:
         schema = Schema(FIELD, paths=["a.graphql"])
-        self.assertEqual(repr(schema), "<graphql_checked.Schema: 1 texts, a.graphql>")
+        self.assertEqual(repr(schema), "<graphql_checked.Schema: 1 text, a.graphql>")
         schema.close()
         schema.close()
         self.assertEqual(repr(schema), "<graphql_checked.Schema: closed, a.graphql>")
@@ -237,9 +249,9 @@ class TestSchemas(unittest.TestCase):
         with Schema(FIELD) as schema:
             document = "{" + " b" * 900 + "}"
             old = signal.signal(signal.SIGALRM, lambda *_: asked.append(len(schema.check("{ c d }"))))
-            signal.setitimer(signal.ITIMER_REAL, 0.001, 0.001)
             try:
                 while len(asked) < 50:
+                    signal.setitimer(signal.ITIMER_REAL, 0.001)  # once, so that no handler interrupts another
                     self.assertEqual(len(schema.check(document)), 900)
             finally:
                 signal.setitimer(signal.ITIMER_REAL, 0)
@@ -290,6 +302,8 @@ class TestNames(unittest.TestCase):
     def test_a_library_that_is_not_there(self) -> None:
         with self.assertRaisesRegex(OSError, "GRAPHQL_CHECKED_LIBRARY"):
             Library("/nowhere/libgraphql_checked.so")
+        with self.assertRaisesRegex(OSError, "it has no graphql_checked_version"):
+            Library("libm.so.6")
 
     def cases(self) -> Iterator[Tuple[Any, str, Dict[str, str]]]:
         """The cases of `examples/report/rules.txt`, each with its message, and the types of its data."""

@@ -184,7 +184,10 @@ class Checker:
                 file.write(schema)
             with open(self.path(index, "lines"), "w", encoding="utf-8") as file:
                 file.writelines(json.dumps({"id": i, "document": text}) + "\n" for i, text in enumerate(documents))
-        loop = 'folder=$1 count=$2; shift 2; i=0; while [ $i -lt $count ]; do "$@" --format json --batch --schema $folder/$i.graphql <$folder/$i.lines >$folder/$i.told 2>/dev/null; echo $?; i=$((i+1)); done'
+        # A schema that is refused is told as text beside --batch, so then it is asked for by itself.
+        asked = '"$@" --batch --schema $folder/$i.graphql <$folder/$i.lines >$folder/$i.told 2>/dev/null'
+        alone = '"$@" --format json --schema $folder/$i.graphql >$folder/$i.told 2>/dev/null'
+        loop = f'folder=$1 count=$2; shift 2; i=0; while [ $i -lt $count ]; do {asked}; s=$?; grep -q "^{{" $folder/$i.told || {{ {alone}; s=$?; }}; echo $s; i=$((i+1)); done'
         statuses = run(["sh", "-c", loop, "sh", self.folder, str(len(groups)), *self.words]).split()
         return [self.answer(index, documents, status) for index, ((_, documents), status) in enumerate(zip(groups, statuses))]
 
@@ -194,10 +197,11 @@ class Checker:
             told = [json.loads(line) for line in file]
         if status in "01" and len(told) == len(documents) and all("accepted" in it for it in told):
             return [], [[Fault(fault) for fault in it.get("faults", [])] for it in told]
-        if status != "1" or not told or any("rule" not in it for it in told):
+        faults = [it for it in told if "rule" in it]
+        if status != "1" or not faults or any("accepted" in it for it in told):
             with open(self.path(index, "graphql"), encoding="utf-8", newline="") as file:
                 sys.exit(f"beside: the checker answers otherwise than wanted, with status {status}, at {file.read()!r} with {documents!r}")
-        return [Fault(it) for it in told], [[] for _ in documents]
+        return [Fault(it) for it in faults], [[] for _ in documents]
 
     def verdicts(self, schema, documents):
         """The same of one schema and its documents."""

@@ -10,7 +10,7 @@ use Rattle.tree_type_members.specs.TypeSystemTree.{SchemaParts}
 use Rattle.schema_components.specs.Lists.{StandsAfter, IsRepeated, has_name}
 use Rattle.schema_components.specs.Given.{Given, ExtensionTree}
 use Rattle.schema_types.specs.TypeParts.{TypeParts, TypeDefinition, type_extension_here}
-use Rattle.schema_fold.specs.Listed.{Definitions, Listed, numbered, definitions_of}
+use Rattle.schema_fold.specs.NumberedDefinition.{Definitions, NumberedDefinition, numbered, definitions_of}
 use Rattle.schema_fold.specs.Components.{all_given, go_together, extension_here, components}
 use Rattle.schema_fold.specs.SchemaFold.{Root, schema_extension_here, schema_is_defined, extends_schema, schema_base, schema_parts_given, roots_given, root_key}
 use Rattle.schema_building.proofs.Numbering.{definitions_numbered}
@@ -98,10 +98,10 @@ type_extensions ds = flat_map (λ d. option_to_list (type_extension_here d)) ds
 abbrev schema_extensions : Definitions → List (SchemaParts Place)
 schema_extensions ds = flat_map (λ d. option_to_list (schema_extension_here d)) ds
 
-abbrev from_it : Listed → TypeParts Place → Given Place (TypeParts Place)
+abbrev from_it : NumberedDefinition → TypeParts Place → Given Place (TypeParts Place)
 from_it l parts = record { extension = l.extension; it = parts }
 
-extensions_alone : (p : TypeParts Place) (list : List Listed) → alone (flat_map (extension_here p) list) ≡ filter (go_together p) (type_extensions (definitions_of list))
+extensions_alone : (p : TypeParts Place) (list : List NumberedDefinition) → alone (flat_map (extension_here p) list) ≡ filter (go_together p) (type_extensions (definitions_of list))
 extensions_alone p [] = refl
 extensions_alone p (l ∷ list) = map-append (λ (g : Given Place (TypeParts Place)). g.it) (extension_here p l) (flat_map (extension_here p) list) ∙ by (type_extension_here l.definition) (extensions_alone p list)
   where
@@ -117,7 +117,7 @@ extensions_alone p (l ∷ list) = map-append (λ (g : Given Place (TypeParts Pla
     by None rest = rest
     by (Some parts) rest = if_together parts (go_together p parts) rest
 
-schema_extensions_alone : (list : List Listed) → alone (flat_map extends_schema list) ≡ schema_extensions (definitions_of list)
+schema_extensions_alone : (list : List NumberedDefinition) → alone (flat_map extends_schema list) ≡ schema_extensions (definitions_of list)
 schema_extensions_alone [] = refl
 schema_extensions_alone (l ∷ list) =
     map-append (λ (g : Given Place (SchemaParts Place)). g.it) (extends_schema l) (flat_map extends_schema list) ∙ (λ i. all_alone l.extension (option_to_list (schema_extension_here l.definition)) i ++ schema_extensions_alone list i)

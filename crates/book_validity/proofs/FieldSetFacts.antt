@@ -2,7 +2,7 @@
 use Rattle.std.proofs.Common.{◌≡◌, ℕ, List, [], None, Some, Contains, is_some, refl, sym, ap, subst, inl, inr, true≢false}
 use Rattle.tree_directives.specs.OperationQueries.{location_of_operation}
 use Rattle.tree_directives.specs.declared.operation_type.OperationType.TheVariants as operation
-use Rattle.document_meaning.specs.MeantTree.{MeantSet}
+use Rattle.spec_document.specs.MeantTree.{MeantSet}
 use Rattle.rule_definitions.specs.Judged.{Judged}
 use Rattle.rule_definitions.proofs.Lists.{not_in_nil, only, Contains-first}
 use Rattle.rule_document_definitions.specs.DocumentFaults.{OfData, OfDocument, OfLimit}

@@ -15,7 +15,7 @@ use Rattle.schema_types.specs.TypeParts.{TypeDefinition, type_here}
 use Rattle.schema_types.specs.declared.type_kind.TypeKind.{TypeKind}
 use Rattle.schema_types.specs.declared.type_kind.TypeKind.TheVariants as kind
 use Rattle.schema_types.proofs.UnderNames.{get_under}
-use Rattle.schema_fold.specs.Listed.{Definitions, numbered, type_name, types_in}
+use Rattle.schema_fold.specs.NumberedDefinition.{Definitions, numbered, type_name, types_in}
 use Rattle.schema_fold.specs.Components.{parts_of}
 use Rattle.schema_fold.specs.Collected.{collected_from}
 use Rattle.schema_fold.specs.Kept.{KeptComponents, kept_from}

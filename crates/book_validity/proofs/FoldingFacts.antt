@@ -9,7 +9,7 @@ use Rattle.schema_types.specs.SchemaTree.{same_kind}
 use Rattle.schema_types.specs.TypeParts.{TypeDefinition, type_here}
 use Rattle.schema_types.specs.declared.type_kind.TypeKind.{TypeKind}
 use Rattle.schema_types.specs.declared.type_kind.TypeKind.TheVariants as kind
-use Rattle.schema_fold.specs.Listed.{Definitions, type_name, types_in, type_named, directive_name, directives_in}
+use Rattle.schema_fold.specs.NumberedDefinition.{Definitions, type_name, types_in, type_named, directive_name, directives_in}
 use Rattle.schema_fold.specs.SchemaFold.{schema_definition_in, schema_is_defined}
 use Rattle.schema_fold.specs.BuildErrors as rule
 use Rattle.schema_fold.specs.BuildErrors.{BuildFault, Fails, FoldingRules, is_built_in_scalar}

@@ -5,7 +5,7 @@ use Rattle.schema_types.specs.SchemaTree.{SchemaTree}
 use Rattle.schema_types.specs.Plain.{plain}
 use Rattle.schema_types.specs.Looks.{TypeLooks}
 use Rattle.schema_types.specs.declared.type_kind.TypeKind.TheVariants as kind
-use Rattle.document_meaning.specs.MeantTree.{Definition}
+use Rattle.spec_document.specs.MeantTree.{Definition}
 use Rattle.verdict_definitions.specs.in_typing.Meanings.{meanings}
 use Rattle.rule_definitions.specs.Words.{Present}
 use Rattle.rule_definitions.specs.Judged.{Judged, judged}

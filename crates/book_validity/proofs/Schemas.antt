@@ -20,7 +20,7 @@ use Rattle.schema_types.proofs.UnderNames.{get_under}
 use Rattle.schema_built_in.specs.MetaFields.{typename_field, schema_field, type_field, meta_fields, meta_field_of}
 use Rattle.verdict_definitions.specs.in_schema.LookUps.{is_composite_kind}
 use Rattle.verdict_definitions.specs.in_schema.FieldLooks.{is_query_root, field_on}
-use Rattle.document_meaning.specs.MeantTree.{Definition}
+use Rattle.spec_document.specs.MeantTree.{Definition}
 use Rattle.rule_definitions.specs.Diagnostics.{UndefinedDefinition, OutputType}
 use Rattle.rule_definitions.specs.Faults.{told}
 use Rattle.rule_definitions.specs.Judged.{Judged, judged}

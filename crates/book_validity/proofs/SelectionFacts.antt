@@ -6,7 +6,7 @@ use Rattle.tree_directives.specs.declared.directive_location.DirectiveLocation.T
 use Rattle.rule_definitions.specs.Words.{Present}
 use Rattle.rule_definitions.specs.Judged.{Judged}
 use Rattle.graphql_names.specs.Placed.{Placed}
-use Rattle.document_meaning.specs.MeantTree.{MeantSelection, MeantField, MeantSpread, MeantInline}
+use Rattle.spec_document.specs.MeantTree.{MeantSelection, MeantField, MeantSpread, MeantInline}
 use Rattle.rule_definitions.specs.Diagnostics.{SpreadTree}
 use Rattle.rule_document_definitions.specs.Selected.{spread_name, selection_location, selection_directives, fragment_named}
 use Rattle.rule_document_definitions.specs.Reached.{Reached, ReachesFragment}

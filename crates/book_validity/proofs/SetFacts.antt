@@ -2,7 +2,7 @@
 use Rattle.std.proofs.Common.{◌≡◌, ◌⊎◌, List, [], ◌∷◌, ◌++◌, Some, Contains, refl, sym, inl, inr}
 use Rattle.std.proofs.lemmas.List.Elements.{Contains-append_left, Contains-append_right, Contains-append_cases}
 use Rattle.schema_components.proofs.Places.{not_in_nil}
-use Rattle.document_meaning.specs.MeantTree.{MeantSet, meant_set, no_meant, meant_then}
+use Rattle.spec_document.specs.MeantTree.{MeantSet, meant_set, no_meant, meant_then}
 use Rattle.rule_definitions.specs.Judged.{Judged}
 use Rattle.rule_document_definitions.specs.Selected.{Position, standing_in, as_field, own, HasNone}
 use Rattle.rule_document_definitions.specs.Reached.{Closed, first, next, Reached}

@@ -7,8 +7,8 @@ use Rattle.schema_types.specs.SchemaTree.{SchemaTree, same_kind}
 use Rattle.schema_types.specs.Plain.{plain}
 use Rattle.schema_types.specs.Looks.{TypeLooks}
 use Rattle.schema_types.specs.declared.type_kind.TypeKind.TheVariants as kind
-use Rattle.document_meaning.specs.MeantTree.{MeantSelection, MeantField, MeantSpread, MeantInline, MeantDocument}
-use Rattle.document_meaning.specs.Unplaced.{unplaced_operation, unplaced_document, unplaced_set, unplaced_meant}
+use Rattle.spec_document.specs.MeantTree.{MeantSelection, MeantField, MeantSpread, MeantInline, MeantDocument}
+use Rattle.spec_document.specs.Unplaced.{unplaced_operation, unplaced_document, unplaced_set, unplaced_meant}
 use Rattle.verdict_definitions.specs.in_typing.Meanings.{meanings, inner_type}
 use Rattle.verdict_definitions.specs.in_typing.KeptSelections.{is_leaf}
 use Rattle.verdict_definitions.specs.in_typing.TypedByPlace.{IsTyped, IsTypedDocument}

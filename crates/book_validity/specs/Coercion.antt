@@ -1,5 +1,5 @@
 -- Values of correct type (section 5.6.1): which values are coercible to a type, by cases on the type in the order of sections 3.5 to 3.12.
--- That the keys of an object differ is a rule of its own (5.6.3): here the first of each key counts.
+-- That the keys of an object differ is a separate rule (5.6.3): here the first entry of each key counts.
 use Rattle.std.specs.Prelude.{◌≡◌, ℕ, true, false, List, [], ◌∷◌, codes, Contains, Some, FitsSigned}
 use Rattle.std.proofs.Common.{w32}
 use Rattle.graphql_names.specs.Placed.{Text}
@@ -18,7 +18,7 @@ use Rattle.rule_definitions.specs.GivenValues.{entry_named, is_absent_or_null}
 use Rattle.rule_document_definitions.specs.UsedVariables.{StandsInValue}
 use Rattle.book_validity.specs.Words.{OperationVariables, Never, IsThere, named}
 
--- inside is the built-in scalar of that name
+-- the type named inside is the built-in scalar of that name
 abbrev pub IsBuiltIn : Judged → List ℕ → TypeTree (Unit {0}) → TypeLooks → Type 0
 IsBuiltIn s name ty t = IsBuiltInScalar s (named_in ty) t × (named_in ty ≡ name)
 
@@ -29,14 +29,14 @@ IsAnyOther (VariableTree n) = ⊥
 IsAnyOther (ListTree items) = ⊥
 IsAnyOther v = Unit {0}
 
--- 5.6.4 Input Object Required Fields: each is given, and not as null
+-- 5.6.4 Input Object Required Fields: each required field is given, and not as null
 abbrev pub HasRequiredFields : TypeLooks → EntryTrees (Unit {0}) → Type 0
 HasRequiredFields t es = (m : List ℕ) (f : InputValueTree (Unit {0})) → t.input m ≡ Some f → is_required_input f ≡ true → is_absent_or_null (entry_named m es) ≡ false
 
 mutual
-  -- to the type ty as it is asked for, of which t is inside all brackets
+  -- coercible to the type `ty`, where `t` is the type named inside its brackets
   pub data IsCoercible (s : Judged) (variables : OperationVariables) : TypeTree (Unit {0}) → TypeLooks → ValueTree (Unit {0}) → Type 0 where
-    -- 3.5 Scalars: to a custom scalar anything
+    -- 3.5 Scalars: any value but null, a variable or a list is coercible to a custom scalar
     custom_scalar : {ty : _} {t : _} {v : _} → IsCustomScalar s (named_in ty) t → IsAnyOther v → IsCoercible s variables ty t v
     -- Stricter: each item is judged against that scalar as it is asked for, with its mark
     list_of_custom_scalar : {ty : _} {t : _} {items : _} → IsCustomScalar s (named_in ty) t → AreCoercible s variables (item_type_of ty) t items → IsCoercible s variables ty t (ListTree items)
@@ -55,30 +55,31 @@ mutual
     integer_as_id : {ty : _} {t : _} {digits : _} → IsBuiltIn s (codes "ID") ty t → IsCoercible s variables ty t (IntTree digits)
     -- 3.9 Enums: the name of one of its values
     enum_value : {ty : _} {t : TypeLooks} {n : Text (Unit {0})} → t.kind ≡ kind.Enum → IsThere (t.value n.it) → IsCoercible s variables ty t (EnumTree n)
-    -- 3.10 Input Objects: entries for its fields, and what it requires
+    -- 3.10 Input Objects: each entry is for one of its fields, and each required field is given
     input_object : {ty : _} {t : TypeLooks} {es : _} → t.kind ≡ kind.InputObject → AreEntriesCoercible s variables t [] es → HasRequiredFields t es → IsCoercible s variables ty t (ObjectTree es)
     -- Laxer: where items are lists, an item that is none counts as a list of one, since the cases above ask nothing of brackets
-    -- 3.11 List: each item is coercible to the type of items; or one value, as above
+    -- 3.11 List: each item is coercible to the item type; the cases above are for one value that is no list
     list : {ty : _} {t : _} {items : _} → is_list_type ty ≡ true → AreCoercible s variables (item_type_of ty) t items → IsCoercible s variables ty t (ListTree items)
-    -- 3.12 Non-Null: null, where there is no mark
+    -- 3.12 Non-Null: null, if the type has no `!`
     null : {ty : _} {t : _} → has_mark ty ≡ false → IsCoercible s variables ty t NullTree
     -- Laxer: inside a list or an object its marks and brackets count for nothing; of a whole argument's `IsVariableUsageAllowed` says more
-    -- 5.8.5 a variable whose type has the same name inside, if it is defined
+    -- 5.8.5: a variable whose type names the same type inside, if the variable is defined
     variable : {ty : _} {t : _} {n : Text (Unit {0})} → IfPresent (named defined_name variables n.it) (λ x. (inner_name x.it.ty.it).it ≡ named_in ty) → IsCoercible s variables ty t (VariableTree n)
 
   pub data AreCoercible (s : Judged) (variables : OperationVariables) : TypeTree (Unit {0}) → TypeLooks → ItemTrees (Unit {0}) → Type 0 where
     no_more_items : {ty : _} {t : _} → AreCoercible s variables ty t no_items
     and_item : {ty : _} {t : _} {p : _} {v : _} {items : _} → IsCoercible s variables ty t v → AreCoercible s variables ty t items → AreCoercible s variables ty t (item_then p v items)
 
-  -- of these keys the first entries stand before
+  -- the entries are coercible, where these are the keys of the entries before them
   pub data AreEntriesCoercible (s : Judged) (variables : OperationVariables) : TypeLooks → List (List ℕ) → EntryTrees (Unit {0}) → Type 0 where
     no_more_entries : {t : _} {before : _} → AreEntriesCoercible s variables t before no_entries
-    -- 5.6.2 Input Object Field Names: the key is that of a field; the value, if it is the first, is coercible to the field's type, if that is there
+    -- 5.6.2 Input Object Field Names: the key is that of a field; the value, if it is the first of its key, is coercible to the field's type, if that
+    -- type exists
     and_entry : {t : TypeLooks} {before : _} {k : Text (Unit {0})} {p : _} {v : _} {es : _} (f : InputValueTree (Unit {0})) → t.input k.it ≡ Some f
         → (Never (Contains before k.it) → (u : TypeLooks) → s.type_named (named_in f.ty.it) ≡ Some u → IsCoercible s variables f.ty.it u v)
         → AreEntriesCoercible s variables t (k.it ∷ before) es → AreEntriesCoercible s variables t before (entry_then k p v es)
 
--- the value is coercible to the type, if that is there
+-- the value is coercible to the type, if that type exists
 pub record IsOfCorrectType (s : Judged) (variables : OperationVariables) (ty : TypeTree (Unit {0})) (v : ValueTree (Unit {0})) : Type 0 where
   pub coercible : IfPresent (s.type_named (named_in ty)) (λ t. IsCoercible s variables ty t v)
   -- 5.8.3 All Variable Uses Defined

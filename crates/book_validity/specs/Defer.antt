@@ -11,7 +11,7 @@ use Rattle.book_validity.specs.Words.{Document, Operation, Selection, Each, AreU
 pub record AreDefersValid (d : Document) (o : Operation) : Type 0 where
   -- no fragment at the root of a mutation or subscription is deferred
   pub root : o.operation_type ≢ operation.Query → (x : Selection) → AtRoot d o x → as_field x ≡ None → Each (defers x) (λ e. ⊥)
-  -- what a subscription always reaches is deferred by a condition alone
+  -- what a subscription always reaches is deferred only under a condition
   pub conditional : o.operation_type ≡ operation.Subscription → (x : Selection) → ReachedAlways d o x → Each (defers x) IsConditional
 
 -- Stricter: October 2021 has no such directive, nor rules for it

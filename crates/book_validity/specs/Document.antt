@@ -1,5 +1,5 @@
--- A valid document: every rule of section 5 holds of what it means over a schema, as the specification states them, and nothing
--- is said of faults and places. Typing (3.3.1, 5.1.1, 5.2.1.1, 5.2.2.1, 5.3.1, 5.3.3, 5.5.1.1, 5.5.1.2) comes before it.
+-- A valid document: every rule of section 5, as the specification states it, holds of what the document means over a schema.
+-- Faults and places play no part. Typing (3.3.1, 5.1.1, 5.2.1.1, 5.2.2.1, 5.3.1, 5.3.3, 5.5.1.1, 5.5.1.2) comes before it.
 use Rattle.std.specs.Prelude.{◌≡◌}
 use Rattle.tree_directives.specs.declared.operation_type.OperationType.TheVariants as operation
 use Rattle.tree_directives.specs.OperationQueries.{location_of_operation}

@@ -1,4 +1,4 @@
--- Two algorithms of the specification beside what the checker does, and where they differ.
+-- Two algorithms of the specification compared with what the checker does, and where they differ.
 use Rattle.std.specs.Prelude.{◌≡◌, ◌↔◌, ℕ, true, false, List, is_some, ◌⊎◌}
 use Rattle.tree_literals.specs.TypeTree.{unplaced_type}
 use Rattle.tree_literals.specs.TypeQueries.{has_mark, nullable_type, AreTypesCompatible}
@@ -32,17 +32,17 @@ module _ (x : VariableDefinitionTree (Unit {0})) (v : InputValueTree (Unit {0}))
   abbrev pub IsCompatibleWithNullable : Type 0
   IsCompatibleWithNullable = AreTypesCompatible (unplaced_type x.ty.it) (nullable_type v.ty.it)
 
-  -- the text's algorithm returns true
+  -- the specification's algorithm returns true
   abbrev pub IsAllowedByTheText : Type 0
   IsAllowedByTheText =
       (NeedsDefault × ((HasNonNullVariableDefaultValue ⊎ HasLocationDefaultValue) × IsCompatibleWithNullable))
       ⊎ (Never NeedsDefault × AreTypesCompatible (unplaced_type x.ty.it) v.ty.it)
 
-  -- past it: the variable's default is null
+  -- allowed beyond that algorithm: the variable's default is null
   abbrev pub IsAllowedByNull : Type 0
   IsAllowedByNull = NeedsDefault × (Present x.default_value (λ d. is_null_value d.it ≡ true) × IsCompatibleWithNullable)
 
--- a variable that is a whole argument may stand there by the text, or since a default that is null counts as one
+-- a variable may be a whole argument by that algorithm, or since a default that is null counts as a default
 abbrev pub UsagesAllowed : Type 0
 UsagesAllowed = (x : VariableDefinitionTree (Unit {0})) (v : InputValueTree (Unit {0})) → IsVariableUsageAllowed x v ↔ (IsAllowedByTheText x v ⊎ IsAllowedByNull x v)
 
@@ -58,11 +58,11 @@ module _ (s : Judged) where
       ⊎ (((t.kind ≡ kind.Interface) × Present (s.type_named object) (λ u. (u.kind ≡ kind.Object) × (u.implements type ≡ true)))
       ⊎ ((t.kind ≡ kind.Union) × (t.has_member object ≡ true))))
 
-  -- in each schema that is folded
+  -- no type but a union has members, as in each schema that is folded
   abbrev pub OnlyUnionsHaveMembers : Type 0
   OnlyUnionsHaveMembers = (n m : List ℕ) → Present (s.type_named n) (λ t. t.has_member m ≡ true) → Present (s.type_named n) (λ t. t.kind ≡ kind.Union)
 
--- a fragment can apply nowhere exactly where "applicableTypes" has no object type and it is not on the very type where it stands
+-- a fragment can apply nowhere exactly when "applicableTypes" has no object type and the fragment is not on the parent type itself
 abbrev pub SpreadsPossible : Type 0
 SpreadsPossible = (s : Judged) → IsValidSchema s → OnlyUnionsHaveMembers s → (parent condition : List ℕ)
     → AppliesNowhere s parent condition ↔ (Never (condition ≡ parent) × ((object : List ℕ) → IsPossibleType s parent object → Never (IsPossibleType s condition object)))

@@ -1,6 +1,6 @@
--- Field Selection Merging (section 5.3.2): its two algorithms line by line, to be read beside the text. Fragments may spread one
--- another in a circle, where the algorithms do not end; so each is said to a depth: calls that stand deeper in one another are taken
--- to return true. What is true at every depth is what they return wherever they end.
+-- Field Selection Merging (section 5.3.2): its two algorithms line by line, to be read next to the specification. Fragments may spread one another in
+-- a cycle, and then the algorithms do not end; so each is stated to a depth: calls that are nested deeper are taken to return true. Wherever the
+-- algorithms end, they return true if that is so at every depth.
 use Rattle.std.specs.Prelude.{◌≡◌, ℕ, zero, suc, List, ◌++◌, Contains, Some, ◌⊎◌}
 use Rattle.tree_literals.specs.TypeTree.{TypeTree, NamedTree, NonNullNamedTree, ListTree, NonNullListTree}
 use Rattle.schema_types.specs.declared.type_kind.TypeKind.TheVariants as kind
@@ -14,7 +14,7 @@ use Rattle.book_validity.specs.Words.{Document, Operation, Selection, Field, Nev
 
 -- ---- types
 
--- Steps 3 and 4 of SameResponseShape, and what they go on to with the names inside:
+-- Steps 3 and 4 of SameResponseShape; what follows them (`Then`) is given the names inside:
 -- "If typeA or typeB is Non-Null: If typeA or typeB is nullable, return false. Let typeA be the nullable type of typeA. Let typeB be
 -- the nullable type of typeB."
 -- "If typeA or typeB is List: If typeA or typeB is not List, return false. Let typeA be the item type of typeA. Let typeB be the item
@@ -112,7 +112,7 @@ module _ (s : Judged) (d : Document) where
   abbrev pub CanMerge : List Selection → Type 0
   CanMerge set = (depth : ℕ) → FieldsInSetCanMerge depth set
 
-  -- "Let set be any selection set defined in the GraphQL document. FieldsInSetCanMerge(set) must be true.": of a selection set that the
-  -- operation reaches; where each fragment is used (5.5.1.4), each is reached by one
+  -- "Let set be any selection set defined in the GraphQL document. FieldsInSetCanMerge(set) must be true.": here of each selection set that the
+  -- operation reaches; where each fragment is used (5.5.1.4), each set is reached by some operation
   abbrev pub DoItsFieldsMerge : Operation → Type 0
   DoItsFieldsMerge o = (set : List Selection) → ReachesSet d o set → CanMerge set

@@ -8,7 +8,7 @@ use Rattle.book_validity.specs.Words.{Operation, Field, Never}
 use Rattle.book_validity.specs.Arguments.{AreArgumentsValid}
 
 pub record IsValidField (s : Judged) (o : Operation) (f : Field) : Type 0 where
-  -- 5.3.3 Leaf Field Selections: a field whose values have fields selects some of them
+  -- 5.3.3 Leaf Field Selections: a field of composite type selects something
   pub selects : IfPresent (s.type_named (named_in f.definition.ty)) (λ t. IsCompositeType t → Never (HasNone f.set))
   -- 5.4 Arguments
   pub arguments : AreArgumentsValid s o.variables f.definition.arguments f.head.arguments

@@ -1,4 +1,4 @@
--- Fragments (section 5.5). That their names differ (5.5.1.1) and that their types are there (5.5.1.2) is typing.
+-- Fragments (section 5.5). That their names differ (5.5.1.1) and that their types exist (5.5.1.2) is typing.
 use Rattle.std.specs.Prelude.{◌≡◌, ℕ, List, Contains, Some}
 use Rattle.tree_directives.specs.declared.directive_location.DirectiveLocation.TheVariants as location
 use Rattle.rule_definitions.specs.Words.{Present, IfPresent}
@@ -10,13 +10,12 @@ use Rattle.book_validity.specs.Words.{Document, Operation, Fragment, Selection, 
 use Rattle.book_validity.specs.Directives.{AreDirectivesValid}
 
 module _ (s : Judged) where
-  -- 5.5.1.3: an object, an interface or a union, if the type is there
+  -- 5.5.1.3: an object, an interface or a union, if the type exists
   abbrev pub IsOnComposite : List ℕ → Type 0
   IsOnComposite n = IfPresent (s.type_named n) IsCompositeType
 
   -- Laxer: a fragment on the very type where it stands may stand there, even if no object type is possible
-  -- 5.5.2.3: what has the type `parent` is never of the fragment's type: no object type is possible for both, where "applicableTypes
-  -- must not be empty"
+  -- 5.5.2.3: the fragment's type is another than `parent`, and no object type is possible for both, although "applicableTypes must not be empty"
   pub record AppliesNowhere (parent condition : List ℕ) : Type 0 where
     pub other : Never (condition ≡ parent)
     pub none : (object : List ℕ) → CanBe s parent object → Never (CanBe s condition object)

@@ -9,7 +9,7 @@ use Rattle.rule_definitions.specs.Names.{input_name}
 use Rattle.rule_definitions.specs.Subtypes.{is_valid_type}
 use Rattle.book_validity.specs.Words.{Each, named}
 
--- step 2 there, of a field and the implemented field
+-- step 2 of IsValidImplementation, for a field and the implemented field
 pub record IsValidImplementationField (s : Judged) (field implemented : FieldDefinitionTree (Unit {0})) : Type 0 where
   -- "field must include an argument of the same name for every argument defined in implementedField. That named argument on field
   -- must accept the same type (invariant) as that named argument on implementedField."

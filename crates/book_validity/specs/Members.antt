@@ -14,15 +14,15 @@ use Rattle.book_validity.specs.Words.{AreUnique}
 use Rattle.book_validity.specs.Directives.{AreDirectivesValid}
 
 module _ (s : Judged) where
-  -- 2.1.9 "must not start with two underscores": what stands there is built in, or its name does not
+  -- 2.1.9 "must not start with two underscores": what is at the address is built in, or its name does not
   abbrev pub IsNameAllowed : Address → List ℕ → Type 0
   IsNameAllowed at name = s.built_in at ≡ false → is_reserved name ≡ false
 
-  -- the type of the name is there, and of such a kind
+  -- the type of the name exists, and its kind passes the test
   abbrev pub IsOfKind : (TypeKind → Bool) → List ℕ → Type 0
   IsOfKind test n = Present (s.type_named n) (λ t. test t.kind ≡ true)
 
-  -- 5.7, of what is applied in a schema: there are no variables
+  -- 5.7, for the directives that are applied in a schema, where there are no variables
   abbrev pub AreApplied : DirectiveLocation → List (DirectiveTree (Unit {0})) → Type 0
   AreApplied place ds = AreDirectivesValid s [] place (map (λ d. record { it = d; place = tt }) ds)
 

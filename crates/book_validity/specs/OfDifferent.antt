@@ -1,5 +1,5 @@
--- The algorithms of section 5.3.2 once more, where a pair of members is of two different fields, and each selection set is looked at
--- ("Let set be any selection set defined in the GraphQL document"). Read so, they answer the same (`EitherReading`).
+-- The algorithms of section 5.3.2 again, read so that a pair of members is two different fields, and each selection set is checked ("Let set be any
+-- selection set defined in the GraphQL document"). This reading has the same answer (`EitherReading`).
 use Rattle.std.specs.Prelude.{◌≡◌, ℕ, zero, suc, List, ◌⊎◌}
 use Rattle.rule_definitions.specs.Judged.{Judged}
 use Rattle.rule_document_definitions.specs.Selected.{field_name}
@@ -9,7 +9,7 @@ use Rattle.book_validity.specs.Words.{Document, Operation, Selection, Field}
 use Rattle.book_validity.specs.FieldSelectionMerging.{Unwrapped, IsScalarOrEnum, ParentsMayMeet, merged_set, fieldsForName}
 use Rattle.book_validity.specs.FieldSelectionMerging.{ReachesSet}
 
--- they stand in different places of the document
+-- they are at different positions in the document
 abbrev pub AreDifferent : Field → Field → Type 0
 AreDifferent fieldA fieldB = fieldA.position ≡ fieldB.position → ⊥
 
@@ -33,6 +33,6 @@ module _ (s : Judged) (d : Document) where
       × (SameArguments fieldA.head.arguments fieldB.head.arguments
       × FieldsInSetCanMergeOfDifferent depth (merged_set fieldA fieldB))))
 
-  -- of each set that the operation reaches
+  -- each set that the operation reaches can merge
   abbrev pub AnySetCanMerge : Operation → Type 0
   AnySetCanMerge o = (set : List Selection) → ReachesSet d o set → (depth : ℕ) → FieldsInSetCanMergeOfDifferent depth set

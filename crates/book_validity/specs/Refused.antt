@@ -1,5 +1,5 @@
--- What is no valid document and no valid schema by the book, and what does not merge: a book that left out the rule, or had it
--- wrong, would break these.
+-- What is no valid document or no valid schema by the book, and what does not merge: if the book left out the rule, or had it wrong, these laws would
+-- fail.
 use Rattle.std.specs.Prelude.{◌≡◌, ℕ, true, List, Contains, None, Some}
 use Rattle.graphql_names.specs.Placed.{Placed}
 use Rattle.tree_operations.specs.OperationTree.{VariableDefinitionTree}
@@ -19,7 +19,7 @@ abbrev pub UnusedVariableIsInvalid : Type 0
 UnusedVariableIsInvalid = (s : Judged) (d : Document) (o : Operation) (x : Placed (Unit {0}) (VariableDefinitionTree (Unit {0}))) → Contains (operations d) o → Contains o.variables x
     → Never (IsUsedIn (defined_name x) d o) → Never (IsValidDocument s d)
 
--- two fields of an operation on one type, of one response name and with different names
+-- two fields of an operation on one type, with one response key and different names
 abbrev pub ConflictingFieldsDoNotMerge : Type 0
 ConflictingFieldsDoNotMerge = (s : Judged) (d : Document) (o : Operation) (f g : Field) → Contains (operations d) o → IsIn d (own o) f → IsIn d (own o) g
     → response_key f ≡ response_key g → f.parent ≡ g.parent → Never (field_name f ≡ field_name g) → Never (DoFieldsMerge s d)

@@ -1,5 +1,5 @@
--- A valid schema: every rule of section 3 holds of what its definitions fold to, as the specification states them, and nothing is
--- said of faults and places. Folding (names that differ, extensions of what is there) comes before it.
+-- A valid schema: every rule of section 3, as the specification states it, holds of what the schema's definitions fold to. Faults and places play no
+-- part. Folding (names that differ, extensions of what is defined) comes before it.
 use Rattle.std.specs.Prelude.{◌≡◌, ℕ, false, List, Some}
 use Rattle.tree_directives.specs.DirectiveTree.{DirectiveTree, InputValueTree, DirectiveDefinitionTree}
 use Rattle.tree_directives.specs.declared.operation_type.OperationType.{OperationType}
@@ -21,7 +21,7 @@ use Rattle.book_validity.specs.Types.{IsValidType}
 pub record AreRootsValid (s : Judged) : Type 0 where
   -- "The query root operation type must be provided and must be an Object type."
   pub query : IsThere s.definition.query
-  -- as must be the others, if they are provided: "it must be an Object type"
+  -- and so must the others, if they are provided: "it must be an Object type"
   pub objects : (o : OperationType) (n : List ℕ) → root_type_of s.definition o ≡ Some n → Present (s.type_named n) (λ t. t.kind ≡ kind.Object)
   -- "The query, mutation, and subscription root types must all be different types if provided."
   pub different : AreUnique (λ r. r.1) (root_types_in s.definition)
@@ -30,11 +30,11 @@ pub record AreRootsValid (s : Judged) : Type 0 where
 -- ---- 3.13: what a directive or type refers to
 
 module _ (s : Judged) where
-  -- one of these, which are applied, is the directive of the name m
+  -- one of these applied directives has the name m, and that directive is defined
   abbrev pub Applies : List (DirectiveTree (Unit {0})) → List ℕ → Type 0
   Applies ds m = AtSomeIndex ds (λ i d. d.name.it ≡ m) × IsThere (s.directive m)
 
-  -- the type of an argument or input field is, inside, that of the name m
+  -- the type named inside the type of an argument or input field has the name m, and it exists
   abbrev pub IsOf : InputValueTree (Unit {0}) → List ℕ → Type 0
   IsOf v m = (named_in v.ty.it ≡ m) × IsThere (s.type_named m)
 

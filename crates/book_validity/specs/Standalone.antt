@@ -1,5 +1,5 @@
--- A document that is valid without a schema: the rules of section 5 that ask nothing of types (5.4.2, 5.5, 5.6.3, 5.7.1 and 5.8). No
--- directive is defined then, so none is used.
+-- A document that is valid without a schema: the rules of section 5 that do not depend on types (5.4.2, 5.5, 5.6.3, 5.7.1 and 5.8).
+-- No directive is defined then, so none is used.
 use Rattle.rule_definitions.specs.Words.{IfPresent}
 use Rattle.rule_definitions.specs.Names.{argument_name, defined_name}
 use Rattle.rule_document_definitions.specs.Selected.{operations, as_field, spread_name, selection_directives, fragment_named}
@@ -14,7 +14,7 @@ use Rattle.book_validity.specs.Defer.{AreDefersValid, AreLabelsValid}
 abbrev pub UsesNone : Applied → Type 0
 UsesNone ds = Each ds (λ e. ⊥)
 
--- what is given
+-- the arguments that are given
 pub record AreArgumentsValidAlone (given : Given) : Type 0 where
   -- 5.4.2 Argument Uniqueness
   pub unique : AreUnique argument_name given

@@ -9,7 +9,7 @@ use Rattle.book_validity.specs.Words.{Document, Operation, Field, Selection, Nev
 pub record IsValidSubscription (d : Document) (o : Operation) : Type 0 where
   -- Stricter: fields are counted, not response keys, and each fragment at the root counts, whether or not it can apply there
   -- Laxer: so a field that can apply nowhere there serves as the "exactly one entry"
-  -- 5.2.3.1 Single Root Field: any two fields at the root are the same one. That there is one is no rule: no selection set is empty
+  -- 5.2.3.1 Single Root Field: any two fields at the root are the same one. That there is at least one needs no rule: no selection set is empty
   -- (2.4), and no fragment reaches itself (5.5.2.2)
   pub single : (f g : Field) → IsRootField d o f → IsRootField d o g → f ≡ g
   -- "which must not be an introspection field"

@@ -1,4 +1,4 @@
--- Types (sections 3.5 to 3.10). That the names of what a type has differ is the folding of definitions.
+-- Types (sections 3.5 to 3.10). That the names of a type's fields, values and members differ is a rule of folding.
 use Rattle.std.specs.Prelude.{◌≡◌, ℕ, true, false, List, Some}
 use Rattle.graphql_names.specs.Placed.{Text}
 use Rattle.tree_literals.specs.TypeTree.{NonNullNamedTree}
@@ -16,7 +16,7 @@ use Rattle.book_validity.specs.Words.{Never}
 use Rattle.book_validity.specs.Members.{IsNameAllowed, AreApplied, IsValidFieldDefinition, IsValidEnumValue, IsValidInputValue}
 use Rattle.book_validity.specs.Interfaces.{IsValidImplementation}
 
--- "An Object type must define one or more fields", so an interface and an input object; "A Union type must include one or more
+-- "An Object type must define one or more fields", and so must an interface and an input object; "A Union type must include one or more
 -- unique member types"; "An Enum type must define one or more unique enum values"
 abbrev pub HasParts : TypeLooks → TypeKind → Type 0
 HasParts t kind.Scalar = Unit {0}
@@ -26,8 +26,7 @@ HasParts t kind.Union = Never ((m : List ℕ) → t.has_member m ≡ false)
 HasParts t kind.Enum = Never (IsEmpty t.value)
 HasParts t kind.InputObject = Never (IsEmpty t.input)
 
--- 3.10 "references .. directly": a value of the input object n must have one of m in it, by a field of the type `m!`, neither
--- nullable nor a list
+-- 3.10 "references .. directly": a value of the input object n must contain one of m, in a field of the type `m!`, neither nullable nor a list
 pub record Requires (s : Judged) (n m : List ℕ) : Type 0 where
   pub from : Present (s.type_named n) (λ t. (t.kind ≡ kind.InputObject) × Somewhere t.input (λ k v. (name : Text (Unit {0})) × ((v.ty.it ≡ NonNullNamedTree name) × (name.it ≡ m))))
   pub to : Present (s.type_named m) (λ u. u.kind ≡ kind.InputObject)

@@ -15,7 +15,7 @@ use Rattle.book_validity.specs.Words.{Never}
 module _ {P : Type 0} (m : Meanings) where
   abbrev mutual
     pub IsTyped : List ℕ → SelectionTree P → Type 0
-    -- 5.3.1 Field Selections: the field is defined on the type; 5.3.3 Leaf Field Selections: one of a leaf selects nothing
+    -- 5.3.1 Field Selections: the field is defined on the type; 5.3.3 Leaf Field Selections: a field of a leaf type selects nothing
     IsTyped t (FieldTree p h ts) = Present (m.field t h.name.it) (λ d. (may_select m (inner_type d) ts ≡ true) × AreTyped (inner_type d) ts)
     IsTyped t (SpreadTree p n ds) = Unit {0}
     IsTyped t (InlineTree p None ds ts) = AreTyped t ts
@@ -38,13 +38,13 @@ module _ {P : Type 0} where
   fragment_names (Fragment p f) = f.name.it ∷ []
   fragment_names _ = []
 
-  -- an operation of the document ds behind these definitions
+  -- an operation of the document `ds`, after the definitions `before`
   pub record IsTypedOperation (m : Meanings) (ds before : List (DefinitionTree P)) (o : OperationTree P) : Type 0 where
     -- 5.2.1.1 Operation Name Uniqueness: none before it has its name
     pub unique : IfPresent o.name (λ n. Never (Contains (flat_map operation_names before) n.it))
     -- 5.2.2.1 Lone Anonymous Operation
     pub alone : o.name ≡ None → length (filter is_operation ds) ≤ 1
-    -- 3.3.1: the root is there; 5.3: its selections are typed
+    -- 3.3.1: the root type exists; 5.3: its selections are typed
     pub selections : Present (m.root o.operation_type) (λ t. AreTyped m t o.selections)
 
   pub record IsTypedFragment (m : Meanings) (before : List (DefinitionTree P)) (f : FragmentTree P) : Type 0 where

@@ -1,4 +1,4 @@
--- Values (section 5.6). Which are of correct type, `Coercion` says (5.6.1, 5.6.2, 5.6.4 and 5.8.3).
+-- Values (section 5.6). `Coercion` says which are of correct type (5.6.1, 5.6.2, 5.6.4 and 5.8.3).
 use Rattle.tree_literals.specs.ValueTree.{ValueTree, ItemTrees, EntryTrees, ListTree, ObjectTree, no_items, item_then, no_entries, entry_then}
 use Rattle.rule_definitions.specs.GivenValues.{entry_list}
 use Rattle.book_validity.specs.Words.{AreUnique}

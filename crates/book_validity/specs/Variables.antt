@@ -13,7 +13,7 @@ use Rattle.book_validity.specs.Coercion.{IsOfCorrectType}
 use Rattle.book_validity.specs.Values.{HasUniqueKeys}
 use Rattle.book_validity.specs.Directives.{AreDirectivesValid}
 
--- the type of this name is there, and is an input type (IsInputType, section 3.4.2)
+-- the type of this name exists, and is an input type (IsInputType, section 3.4.2)
 abbrev pub IsInputType : Judged → List ℕ → Type 0
 IsInputType s n = Present (s.type_named n) (λ t. is_input_kind t.kind ≡ true)
 
@@ -24,7 +24,7 @@ pub record AreVariablesValid (s : Judged) (d : Document) (o : Operation) : Type 
   pub input_types : Each o.variables (λ x. IsInputType s (wanted_name (wanted_by x.it)))
   -- 5.8.4 All Variables Used
   pub used : Each o.variables (λ x. IsUsedIn (defined_name x) d o)
-  -- 5.6.1 Values of Correct Type: of a default, in which no variables stand
+  -- 5.6.1 Values of Correct Type: of a default, in which there are no variables
   pub defaults : Each o.variables (λ x. IfPresent x.it.default_value (λ v. IsOfCorrectType s [] (unplaced_type x.it.ty.it) v.it))
   -- 5.6.3 Input Object Field Uniqueness
   pub keys : Each o.variables (λ x. IfPresent x.it.default_value (λ v. HasUniqueKeys v.it))

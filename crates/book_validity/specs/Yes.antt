@@ -1,11 +1,11 @@
--- The book of a yes: when schema texts, and a document over them, are accepted. The same as `IsAccepted`, by the book.
+-- The book of a yes: when schema texts, and a document over them, are accepted. It says the same as `IsAccepted` (`AcceptedByTheBook`).
 use Rattle.std.specs.Prelude.{◌≡◌, ℕ, List}
 use Rattle.graphql_names.specs.Placed.{Place}
 use Rattle.schema_types.specs.SchemaTree.{SchemaTree}
 use Rattle.schema_building.specs.Numbers.{HaveNumbers}
 use Rattle.rule_definitions.specs.Judged.{judged}
 use Rattle.rule_definitions.specs.Kept.{kept}
-use Rattle.document_meaning.specs.Unplaced.{unplaced_document}
+use Rattle.spec_document.specs.Unplaced.{unplaced_document}
 use Rattle.verdict_definitions.specs.Texts.{SourceText, Tree, Terms, ReadsText, ReadsAll, document_number, IsWithin, AreWithin}
 use Rattle.verdict_definitions.specs.Meaning.{all_definitions, schema_of, meanings_over, document_over}
 use Rattle.verdict_definitions.specs.in_typing.OutDoc.{written_document, out_doc}
@@ -24,7 +24,7 @@ meaning_over schema tree = unplaced_document (document_over schema tree)
 abbrev pub schema_for_documents : Terms → List Tree → SchemaTree Place
 schema_for_documents terms trees = kept (schema_of terms trees)
 
--- the schema texts are read, their definitions fold to a schema, and that is valid
+-- the schema texts are read, and their definitions fold to a schema, which is valid
 pub record AreValidSchemas (terms : Terms) (schemas : List SourceText) : Type 0 where
   pub trees : List Tree
   pub read : ReadsAll terms.first_text schemas trees
@@ -33,7 +33,7 @@ pub record AreValidSchemas (terms : Terms) (schemas : List SourceText) : Type 0 
   pub numbered : HaveNumbers terms.first_extension (all_definitions trees)
   pub valid : IsValidSchema (judged (schema_of terms trees))
 
--- the document, which has this number, is read, has a meaning over the schema, and that is valid and its fields merge
+-- the document, which has this number, is read, and has a meaning over the schema, which is valid and whose fields merge
 pub record IsValidOver (schema : SchemaTree Place) (nesting number : ℕ) (document : SourceText) : Type 0 where
   pub tree : Tree
   pub read : ReadsText number document tree
@@ -42,7 +42,7 @@ pub record IsValidOver (schema : SchemaTree Place) (nesting number : ℕ) (docum
   pub valid : IsValidDocument (judged schema) (meaning_over schema tree)
   pub merges : DoFieldsMerge (judged schema) (meaning_over schema tree)
 
--- a law: what a document that is typed means has all of it, each operation and fragment with each of its selections
+-- a law: the meaning of a typed document has all of the document, each operation and fragment with each of its selections
 abbrev pub TypedIsKeptWhole : Type 0
 TypedIsKeptWhole = (schema : SchemaTree Place) (tree : Tree) → IsTypedDocument (meanings_over schema) tree → written_document (document_over schema tree) ≡ out_doc tree
 

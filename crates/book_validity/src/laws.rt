@@ -46,7 +46,7 @@ pub fn rules_hold_by_the_book()
 {}
 
 /// IsVariableUsageAllowed and GetPossibleTypes are as specified (GraphQL, October 2021, sections 5.8.5 and 5.5.2.3), but for a
-/// default that is null, and for a fragment on the very type where it stands.
+/// default that is null, and for a fragment on the parent type itself.
 pub fn two_algorithms_but_for_exceptions()
     ensures usages { UsagesAllowed }
     ensures spreads { SpreadsPossible }
@@ -61,8 +61,8 @@ pub fn what_breaks_a_rule_is_invalid()
 {}
 
 /// Over a schema that keeps the rules a document keeps the rule on merging exactly if FieldsInSetCanMerge holds of each
-/// selection set that its operations reach (GraphQL, October 2021, section 5.3.2). For each operation so it is of any schema
-/// and document, where fields are typed.
+/// selection set that its operations reach (GraphQL, October 2021, section 5.3.2). For each operation this holds of any
+/// schema and document whose fields are typed.
 pub fn merging_is_as_specified()
     ensures accepted { AcceptedMergesAsSpecified }
     ensures typed { TypedMergesAsSpecified }

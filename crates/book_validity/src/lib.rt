@@ -11,5 +11,5 @@
 
 pub mod laws;
 
-// Of the crates beneath, for those above.
+// From the crates below, for those above.
 pub use verdict_definitions::{BuilderRefusal, ExecutableDocumentBuilder, Schema};

@@ -1,4 +1,4 @@
--- What readers hold, and what has become of devices.
+-- What readers hold, and whether devices have failed.
 use Rattle.std.specs.Prelude.{◌≡◌, ℕ, zero, suc, true, false, List, Option, Some, IfSome, IsUtf8, slice_get, IsSomeAnd, All}
 use Rattle.std.specs.List.{AllZip}
 use Rattle.std.specs.Io.KnownBytes.{IsAtEnd}
@@ -17,11 +17,11 @@ TellsText remaining device text = (remaining (device_inner device) ≡ Some text
 abbrev pub IsReadToEnd : {R : Type 0} → (R → Option (List ℕ)) → Device R → Type 0
 IsReadToEnd remaining device = IsAtEnd (remaining (device_inner device))
 
--- the same of each reader
+-- the same for each reader
 abbrev pub AreReadToEnd : {R : Type 0} → (R → Option (List ℕ)) → List (Device R) → Type 0
 AreReadToEnd remaining devices = All (IsReadToEnd remaining) devices
 
--- if each reader tells its bytes, these are they, in order
+-- for each reader that tells its bytes, the text is those, in order
 abbrev pub AreTextsOf : {R : Type 0} → (R → Option (List ℕ)) → List (Device R) → List (List ℕ) → Type 0
 AreTextsOf remaining devices texts = AllZip (IsTextOf remaining) devices texts
 

@@ -5,7 +5,7 @@ use Rattle.checker_calls.specs.declared.run_fault.Outcome.TheVariants.{Accepted,
 use Rattle.checker_calls.specs.declared.run_fault.RunFault.{RunFault}
 use Rattle.checker_calls.specs.declared.run_fault.RunFault.TheVariants.{Memory, Reader, NotUtf8, Writer}
 
--- the status that goes with how a run ended
+-- the status for how a run ended
 abbrev pub status_of : Result Outcome RunFault → ℕ
 status_of (Ok Accepted) = 0
 status_of (Ok Refused) = 1

@@ -6,7 +6,7 @@ use Rattle.clap.specs.declared.builder.action.ArgAction.TheVariants.{Set}
 use Rattle.clap.specs.declared.builder.value_parser.ValueParser.{ValueParser}
 use Rattle.clap.specs.declared.builder.value_parser.ValueParser.TheVariants.{Names, Unsigned}
 
--- the words for layouts, where clap has them
+-- the words for layouts, as clap holds them
 abbrev pub AreLayoutNames : ValueParser → Type 0
 AreLayoutNames names = (words : _) × (names ≡ Names words)
     × (map (λ word. word.now) words.now ≡ codes "line" ∷ codes "two" ∷ codes "four" ∷ codes "tab" ∷ [])

@@ -1,4 +1,4 @@
--- Private: leads to `RunFaultIsDue`. Why readers give no texts, and why an answer is not out.
+-- Private: leads to `RunFaultIsDue`. Why readers give no texts, and why an answer is not written whole.
 use Rattle.std.specs.Prelude.{◌≡◌, ℕ, ◌+◌, ◌<◌, true, List, length, take, Option}
 use Rattle.std.specs.Io.KnownBytes.{Appends}
 use Rattle.graphql_names.specs.declared.device.Device.{Device}
@@ -11,7 +11,7 @@ use Rattle.checker_calls.specs.declared.run_fault.RunFault.TheVariants as run
 
 -- ---- reading
 
--- the reader has failed, or its text is not UTF-8
+-- the reader has failed, its text is not UTF-8, or memory ran out
 abbrev pub IsTextFault : {R : Type 0} → (R → Option (List ℕ)) → Device R → Device R → TextFault → Type 0
 IsTextFault remaining old new text.Memory = Unit {0}
 IsTextFault remaining old new text.Reader = device_failed new ≡ true
@@ -23,14 +23,14 @@ numbered_fault text.Memory number = run.Memory
 numbered_fault text.Reader number = run.Reader number
 numbered_fault text.NotUtf8 number = run.NotUtf8 number
 
--- one of the readers has failed, or its text is not UTF-8; they are counted from 1
+-- one of the readers has failed, its text is not UTF-8, or memory ran out; readers are counted from 1
 abbrev pub IsReadFault : {R : Type 0} → (R → Option (List ℕ)) → List (Device R) → List (Device R) → RunFault → Type 0
 IsReadFault remaining old new run.Memory = Unit {0}
 IsReadFault remaining old new (run.Reader number) = HasFailedAt new number
 IsReadFault remaining old new (run.NotUtf8 number) = IsNotUtf8At remaining old number
 IsReadFault remaining old new (run.Writer count) = ⊥
 
--- ---- putting out
+-- ---- writing
 
 -- the writer took fewer than all bytes
 abbrev pub IsPutFault : {W : Type 0} → (W → Option (List ℕ)) → Device W → Device W → List ℕ → RunFault → Type 0
@@ -40,6 +40,6 @@ IsPutFault contents old new bytes run.Memory = ⊥
 IsPutFault contents old new bytes (run.Reader number) = ⊥
 IsPutFault contents old new bytes (run.NotUtf8 number) = ⊥
 
--- the same of bytes after so many others, which are out
+-- the same for bytes after `before` others, which the writer has taken
 abbrev pub IsPutFaultAfter : {W : Type 0} → (W → Option (List ℕ)) → ℕ → Device W → Device W → List ℕ → RunFault → Type 0
 IsPutFaultAfter contents before old new bytes fault = (count : ℕ) × (fault ≡ run.Writer (before + count)) × IsPutFault contents old new bytes (run.Writer count)

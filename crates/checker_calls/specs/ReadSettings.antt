@@ -11,7 +11,7 @@ use Rattle.checker_calls.specs.declared.layout.Layout.{Layout}
 use Rattle.checker_calls.specs.Program.{AreLayoutNames, program}
 use Rattle.checker_calls.specs.declared.settings.Settings.{Settings}
 
--- what lines begin with under the layout of this name; all stands on one line where there is none
+-- the prefix of lines under the layout of this name; `None` (all on one line) without a name, or for any other name
 abbrev pub prefix_named : Option (List ℕ) → Option (List ℕ)
 prefix_named None = None
 prefix_named (Some name) =
@@ -33,7 +33,7 @@ pub record IsReadOf (rows : List Row) (s : Settings) : Type 0 where
   pub nesting : MatchOption (one_of (codes "nesting") rows)
       (s.nesting ≡ 500) (λ text. s.nesting ≡ digits_value 10 (without_leading_plus text))
 
--- the same for each value that is there, before it is known which are
+-- the same for the values found, whether or not the required ones are among them: a missing one is empty
 pub record IsTakenFrom (found : Found) (s : Settings) : Type 0 where
   pub document : string_bytes s.document ≡ unwrap_or (first_value found (codes "DOCUMENT")) []
   pub schemas : map string_bytes s.schemas.items ≡ unwrap_or (option_map raw_values (matched_of found (codes "SCHEMA"))) []
@@ -42,7 +42,7 @@ pub record IsTakenFrom (found : Found) (s : Settings) : Type 0 where
   pub nesting : (text : List ℕ) → one_text found (codes "nesting") ≡ Some text → IsUnsignedIn 1 1000 text
       → s.nesting ≡ digits_value 10 (without_leading_plus text)
 
--- the words are read as clap reads them for the program's arguments, and refused where clap refuses them or memory runs out
+-- the words are read as clap reads them for the program's arguments, and refused if clap refuses them or memory runs out
 abbrev pub ReadsAs : List (List ℕ) → Result Settings Error → Type 0
 ReadsAs words result = (names : ValueParser) × AreLayoutNames names
     × FailsBy (fault_of (program names) words) result

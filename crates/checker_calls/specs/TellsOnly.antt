@@ -5,7 +5,7 @@ use Rattle.verdict_definitions.specs.Says.{AnyFault}
 use Rattle.checker_calls.specs.declared.refusal.Refusal.{Refusal}
 use Rattle.checker_calls.specs.declared.refusal.Refusal.TheVariants.{Faults, Memory, Failed}
 
--- this fault is all that is told, or memory ran out
+-- this fault is the only one that is told, or memory ran out
 abbrev pub TellsOnly : AnyFault → Refusal → Type 0
 TellsOnly fault (Faults list) = diagnostics_of list ≡ fault ∷ []
 TellsOnly fault Memory = Unit {0}

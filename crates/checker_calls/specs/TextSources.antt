@@ -8,7 +8,7 @@ use Rattle.verdict_definitions.specs.Texts.{SourceText}
 abbrev pub Sources : Type 0
 Sources = List (ℕ × Source)
 
--- those of texts, where the first has this number
+-- the sources of texts, the first of which has this number
 abbrev pub text_sources : ℕ → List SourceText → Sources
 text_sources first [] = []
 text_sources first (text ∷ texts) = (first, unnamed_source text) ∷ text_sources (first + 1) texts

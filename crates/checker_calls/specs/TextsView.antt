@@ -18,7 +18,7 @@ terms_of s = record { nesting = s.nesting; first_text = s.first; first_extension
 abbrev pub texts_of : SchemaTexts → List SourceText
 texts_of s = map string_bytes s.texts.items
 
--- what was kept of them
+-- the trees that were kept
 abbrev pub trees_of : SchemaTexts → List Tree
 trees_of s = map document_tree s.documents.items
 
@@ -26,15 +26,15 @@ trees_of s = map document_tree s.documents.items
 abbrev pub all_sources : List Document → Sources
 all_sources documents = flat_map (λ sources. sources) (map sources_of documents)
 
--- What is kept of reading is of these texts, where the next one gets this number.
+-- What reading gave is that of these texts, and the next one gets this number.
 abbrev pub IsReadingAt : List SourceText → ℕ → SchemaTexts → Type 0
 IsReadingAt texts number s = AreAdded (terms_of s) texts number (trees_of s) (all_sources s.documents.items) (diagnostics_of s.unread)
 
--- What is kept of reading is of these texts.
+-- What reading gave is that of these texts.
 abbrev pub IsReadingOf : List SourceText → SchemaTexts → Type 0
 IsReadingOf texts s = IsReadingAt texts s.files s
 
--- What is kept of reading is of these texts; the next one has the number, which was taken.
+-- What reading gave is that of these texts; the next one has the number `file`, which is taken already.
 pub record IsBefore (texts : List SourceText) (file : FileId) (s : SchemaTexts) : Type 0 where
   pub added : IsReadingAt texts file.0 s
   pub number : s.files ≡ file.0 + 1

@@ -6,12 +6,12 @@ use Rattle.verdict_definitions.specs.Says.{TellsReadFault, IsFaultOfText}
 use Rattle.checker_calls.specs.declared.reading.Unread.{Unread}
 use Rattle.checker_calls.specs.declared.reading.Unread.TheVariants as unread
 
--- a fault is due of the text, or memory ran out
+-- the answer is a fault that is due for the text, or out of memory
 abbrev pub IsUnread : ℕ → ℕ → List ℕ → Unread → Type 0
 IsUnread nesting number text unread.Memory = Unit {0}
 IsUnread nesting number text (unread.Fault place details) = IsFaultOfText nesting number text (details_at (Some place, details))
 
--- what is told of a fault of the reader
+-- the answer tells this fault of the reader
 abbrev pub TellsUnread : ℕ → read.Fault → Unread → Type 0
 TellsUnread number fault unread.Memory = fault ≡ read.Memory
 TellsUnread number fault (unread.Fault place details) = TellsReadFault number fault (details_at (Some place, details))

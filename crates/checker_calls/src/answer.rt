@@ -2,44 +2,50 @@
 
 ghost use Rattle.std.specs.Prelude.{◌≡◌, ◌++◌, codes, Some, OnOk, IfOk, string_bytes};
 ghost use Rattle.std.specs.List.{flat_map};
-ghost use Rattle.std.specs.Option.{option_copied};
+ghost use Rattle.tree_definitions.specs.DefinitionTree.{document_tree};
+ghost use Rattle.tree_definitions.specs.DocumentLayout.{document_text};
 ghost use Rattle.verdict_definitions.specs.in_faults.DetailsView.{details_at, diagnostics_of};
 ghost use Rattle.verdict_definitions.specs.Answer.{fault_line, place_text};
 ghost use Rattle.verdict_definitions.specs.Out.{as_lines};
+ghost use Rattle.checker_calls.specs.Layouts.{prefix_of};
 ghost use Rattle.checker_calls.specs.Parts.{parts_bytes, AreSound, AddsBytes};
 
+use crate::layout::{Layout, push_written};
 use crate::parts::Parts;
 use graphql_names::{FileId, SourceSpan};
 use std::alloc::{AllocError, Global};
 use std::fmt;
 use std::fmt::Write;
+use tree_definitions::Document;
 use verdict_definitions::{Details, DiagnosticList};
 
-/// `accepted`, and the two written texts, each ending with a line feed: a text under a prefix has one, a text on one line gets one.
+/// `accepted`, and the texts of the schema and of the document under the layout, each ending with a line feed: a text under a
+/// prefix has one, a text on one line gets one.
 pub fn accepted(
     alloc: Global,
-    written_schema: &str,
+    schema: &Document,
     written_document: &str,
-    prefix: Option<&str>,
+    layout: Layout<'_>,
 ) -> Result<Parts, AllocError>
     ensures { IfOk result (λ parts. AreSound parts × (parts_bytes parts
-        ≡ codes "accepted\n" ++ as_lines (option_copied prefix.entry) written_schema.now ++ as_lines (option_copied prefix.entry) written_document.now)) }
+        ≡ codes "accepted\n" ++ as_lines (prefix_of layout.entry) (document_text (prefix_of layout.entry) 0 (document_tree schema.now)) ++ as_lines (prefix_of layout.entry) written_document.now)) }
 {
     let mut text = String::from_str(alloc, "accepted\n")?;
-    push_as_lines(&mut text, written_schema, prefix)?;
-    push_as_lines(&mut text, written_document, prefix)?;
+    push_written(&mut text, schema, layout)?;
+    push_as_lines(&mut text, "", layout)?;
+    push_as_lines(&mut text, written_document, layout)?;
     Ok(Parts::of(alloc, text.into_bytes()))
 }
 
-/// Adds a written text, and a line feed where it is all on one line.
-fn push_as_lines(text: &mut String, written: &str, prefix: Option<&str>) -> Result<(), AllocError>
-    ensures { OnOk result (string_bytes text.new ≡ string_bytes text.old ++ as_lines (option_copied prefix.entry) written.now) }
+/// Adds a written text, and a line feed if it is all on one line.
+fn push_as_lines(text: &mut String, written: &str, layout: Layout<'_>) -> Result<(), AllocError>
+    ensures { OnOk result (string_bytes text.new ≡ string_bytes text.old ++ as_lines (prefix_of layout.entry) written.now) }
 {
     text.push_str(written)?;
-    if prefix.is_none() {
-        text.push_str("\n")?;
+    match layout {
+        Layout::OneLine => text.push_str("\n"),
+        Layout::Indented(_) => Ok(()),
     }
-    Ok(())
 }
 
 /// `refused`, and a line for each fault.

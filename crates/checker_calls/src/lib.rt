@@ -11,7 +11,7 @@
 //! - **Devices**: readers are read to their ends, in turn, and what they hold is a text where it is UTF-8 (`read_device.rt`). An
 //!   answer is written whole (`write_device.rt`).
 //! - **Answers**: an answer is `accepted` and two written texts, or `refused` and a line for each fault (`answer.rt`). It is made
-//!   before it is written, in parts, of which a long one that comes again is kept once (`parts.rt`). How a run ends has a status
+//!   before it is written, in parts; a long one that is repeated is kept once (`parts.rt`). How a run ends has a status
 //!   (`run_fault.rt`, `status.rt`). A call that judges texts gives a verdict (`verdict.rt`), that of a refusal among others
 //!   (`refusals.rt`).
 //!
@@ -48,5 +48,5 @@ pub use status::exit_status;
 pub use verdict::{CheckError, Verdict};
 pub use write_device::put;
 
-// Of the crates beneath, for those above.
+// From the crates below, for those above.
 pub use verdict_definitions::{Details, DiagnosticList, Schema, SchemaBuilder};

@@ -6,18 +6,18 @@ ghost use Rattle.checker_calls.specs.Parts.{parts_bytes, AreSound, LiesAt, AddsB
 use std::alloc::{AllocError, Global};
 use std::fmt;
 
-/// A text of so many bytes is long.
+/// A text of this many bytes or more is long.
 const LONG: usize = 256;
 
-/// A long text is looked for among the last so many.
+/// A long text is looked for among this many of the last ones.
 const LOOKED_AT: usize = 64;
 
-/// Bytes in parts. A long text that comes again is kept once, so that faults whose lines hold the same long name are told in
+/// Bytes in parts. A long text that is repeated is kept once, so that faults whose lines hold the same long name are told in
 /// little memory.
 pub struct Parts {
     /// What is kept.
     pub(crate) kept: Vec<u8>,
-    /// From where to where in it each part lies, but the last.
+    /// The range in it of each part but the last.
     pub(crate) ranges: Vec<(usize, usize)>,
     /// Where in it the last part begins, which goes to the end.
     pub(crate) last: usize,

@@ -79,8 +79,8 @@ pub fn read_text<R: Read>(alloc: Global, device: &mut Device<R>) -> Result<Strin
     }
 }
 
-/// The bytes of the reader, up to its end. Each turn adds a byte, ends or fails, so a reader without end
-/// wants memory at the latest.
+/// The bytes of the reader, up to its end. Each turn adds a byte, ends or fails, so a reader without end runs out of memory
+/// at the latest.
 fn read_bytes<R: Read>(alloc: Global, device: &mut Device<R>) -> Result<Vec<u8>, TextFault>
     ensures bytes { IfOk result (λ v. Consumes (R.remaining (device_inner device.old)) (R.remaining (device_inner device.new)) v.items) }
     ensures end { OnOk result (IsAtEnd (R.remaining (device_inner device.new))) }

@@ -37,7 +37,7 @@ pub fn read(alloc: Global, text: &str, file: FileId, nesting: usize) -> Result<D
     }
 }
 
-/// What is said of the text of which a fault is due.
+/// The answer for a text for which this fault is due.
 fn told_of(text: &str, file: FileId, fault: ReadFault) -> Unread
     requires { (offset : ℕ) → fault ≡ Nesting offset → offset < length text.now }
     ensures { TellsUnread file.0 (fault_view fault) result }

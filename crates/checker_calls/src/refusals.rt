@@ -11,7 +11,7 @@ use crate::run_fault::{Outcome, RunFault};
 use crate::verdict::{CheckError, Verdict};
 use std::alloc::Global;
 
-/// The verdict of a refusal of texts, which is none of a checker that has failed.
+/// The verdict that answers a refusal of texts, which is never `Failed`.
 pub fn verdict_of(refusal: Refusal) -> Result<Verdict, CheckError>
     requires { refusal ≢ Failed }
     ensures { result ≡ refusal_verdict refusal }
@@ -23,7 +23,7 @@ pub fn verdict_of(refusal: Refusal) -> Result<Verdict, CheckError>
     }
 }
 
-/// The outcome of a refusal of texts, which is none of a checker that has failed, and the bytes that go with it.
+/// The outcome of a refusal of texts, which is never `Failed`, and the bytes that go with it.
 pub fn refusal_answer(alloc: Global, refusal: Refusal) -> Result<(Outcome, Parts), RunFault>
     requires { refusal ≢ Failed }
     ensures { IsAnswerOfRefusal refusal result }

@@ -12,7 +12,7 @@ pub enum Outcome {
     Refused,
 }
 
-/// Why a run is not done. Texts are counted from 1, the schema texts before the document.
+/// Why a run has no outcome. Texts are counted from 1, the schema texts before the document.
 #[derive(Clone, Copy, Debug, PartialEq, Eq, Error)]
 pub enum RunFault {
     /// Memory ran out.
@@ -24,7 +24,7 @@ pub enum RunFault {
     /// This text is not UTF-8.
     #[error("file {0} is not UTF-8")]
     NotUtf8(usize),
-    /// The writer has failed or took nothing; so many bytes are out.
+    /// The writer has failed or took nothing; it has taken so many bytes.
     #[error("output failed")]
     Writer(usize),
 }

@@ -27,11 +27,11 @@ pub struct SchemaTexts {
     pub first: u64,
     /// The number of the next text.
     pub files: Files,
-    /// The numbers of extensions, of which none is given yet.
+    /// The numbers of extensions, none of which is given yet.
     pub extensions: Extensions,
     /// The texts.
     pub texts: Vec<String>,
-    /// What each text is, in order, as long as each is read.
+    /// The document of each text, in order, as long as each is read.
     pub documents: Vec<Document>,
     /// A fault of each text that is not read.
     pub unread: DiagnosticList,
@@ -58,7 +58,7 @@ impl SchemaTexts {
         }
     }
 
-    /// Adds a text after the others. After a refusal terms and texts are as they were, but what was read may not be.
+    /// Adds a text after the others. After an error terms and texts are unchanged, but what was read may not be.
     pub fn add(&mut self, text: &str) -> Result<(), AllocError>
         requires { IsReadingOf (texts_of self.old) self.old }
         ensures terms { terms_of self.new ≡ terms_of self.old }
@@ -98,7 +98,7 @@ impl SchemaTexts {
         }
     }
 
-    /// Keeps what the text with this number is, as long as each text is read.
+    /// Keeps the document of the text with this number, as long as each text is read.
     fn keep(&mut self, document: Document, file: FileId) -> Result<(), AllocError>
         requires { IsBefore (texts_of self.old) file self.old }
         ensures terms { terms_of self.new ≡ terms_of self.old }

@@ -11,7 +11,7 @@ use crate::layout::Layout;
 use clap::{ArgMatches, Error};
 use std::alloc::{AllocError, Global};
 
-/// How many brackets may be open at once, where the words do not say.
+/// How many brackets may be open at once, if the words do not say.
 const NESTING: usize = 500;
 
 /// What the program's words ask for.
@@ -78,7 +78,7 @@ fn read_schemas(alloc: Global, matches: &ArgMatches<'_>) -> Result<Vec<String>, 
     Ok(paths)
 }
 
-/// The layout of this name: on one line, where there is none.
+/// The layout of this name; all on one line if there is none.
 fn layout_named(name: Option<&str>) -> Layout<'static>
     ensures { prefix_of result ≡ prefix_named (option_map (λ n. n.now) name.entry) }
 {

@@ -11,7 +11,7 @@ use crate::run_fault::RunFault;
 use graphql_names::Device;
 use std::io::Write;
 
-/// Writes the bytes. A writer that fails or takes nothing leaves so many of them out as the fault says.
+/// Writes the bytes. If the writer fails or takes nothing, the fault says how many bytes it took.
 pub fn put<W: Write>(out: &mut Device<W>, parts: &Parts) -> Result<(), RunFault>
     requires { AreSound parts.now }
     ensures whole { OnOk result (Appends (W.contents (device_inner out.old)) (W.contents (device_inner out.new)) (parts_bytes parts.now)) }
@@ -26,7 +26,7 @@ pub fn put<W: Write>(out: &mut Device<W>, parts: &Parts) -> Result<(), RunFault>
     Ok(())
 }
 
-/// Writes bytes after so many others, and counts all that are out.
+/// Writes bytes after `before` others, and answers how many are written in all.
 fn put_after<W: Write>(out: &mut Device<W>, before: usize, bytes: &[u8]) -> Result<usize, RunFault>
     requires { before + length bytes.now < 2 ^ 64 }
     ensures count { IfOk result (λ count. count ≡ before + length bytes.now) }

@@ -13,7 +13,7 @@ use Rattle.schema_types.specs.Out.{written}
 use Rattle.rule_definitions.specs.Judged as rules
 use Rattle.rule_definitions.specs.Kept.{validated}
 use Rattle.rule_definitions.specs.Rules.{SchemaRules, RulesFail, BoundFails}
-use Rattle.rule_definitions.specs.Told.{PlacedFault, Told}
+use Rattle.rule_definitions.specs.PlacedFaults.{PlacedFault, Told}
 use Rattle.graphql_rules.specs.SchemaTold.{BreaksBesideCycles}
 use Rattle.graphql_rules.specs.in_faults.DetailsTree.{of_rule, of_folding}
 use Rattle.checker_calls.specs.in_verdict_definitions.Texts.{SourceText, Tree, Terms, ReadsAll, document_number, AreWithin, AreRead}

@@ -3,7 +3,7 @@ use Rattle.std.proofs.Common.{inl, inr, ◌≡◌, ◌≢◌, ◌⊎◌, List, [
 use Rattle.graphql_names.specs.Placed.{Place}
 use Rattle.schema_types.specs.SchemaTree.{SchemaTree}
 use Rattle.rule_definitions.specs.Rules.{RulesFail, BoundFails}
-use Rattle.rule_definitions.specs.Told.{PlacedFault, Told}
+use Rattle.rule_definitions.specs.PlacedFaults.{PlacedFault, Told}
 use Rattle.graphql_rules.specs.in_faults.DetailsTree.{of_rule}
 use Rattle.rule_definitions.specs.Room.{most_told}
 use Rattle.graphql_rules.specs.SchemaTold.{RulesOrBoundFail, SchemaTold}

@@ -15,7 +15,7 @@ use Rattle.schema_building.specs.declared.refusal.BuilderRefusal.TheVariants as 
 use Rattle.rule_definitions.specs.Judged.{judged}
 use Rattle.rule_definitions.specs.Kept.{validated}
 use Rattle.rule_definitions.specs.Rules.{SchemaRules, RulesFail, BoundFails}
-use Rattle.rule_definitions.specs.Told.{PlacedFault, Told}
+use Rattle.rule_definitions.specs.PlacedFaults.{PlacedFault, Told}
 use Rattle.graphql_rules.specs.SchemaTold.{BreaksBesideCycles}
 use Rattle.graphql_rules.specs.in_faults.DetailsTree.{of_rule, of_folding}
 use Rattle.graphql_rules.specs.in_faults.DetailsView.{diagnostics_of}
@@ -29,8 +29,7 @@ use Rattle.checker_calls.specs.declared.refusal.Refusal.TheVariants.{Faults, Mem
 
 -- ---- the definitions of all texts
 
--- The builder runs, and has the definitions of these trees, in order, each extension with a number from this one on, and these
--- sources.
+-- The builder has not failed, and has the definitions of these trees, in order, each extension with a number from `number` on, and these sources.
 pub record IsFilled (number : ℕ) (trees : List Tree) (origins : Sources) (b : BuilderValue) : Type 0 where
   pub first : b.first ≡ number
   pub are : b.texts ≡ all_definitions trees
@@ -39,13 +38,13 @@ pub record IsFilled (number : ℕ) (trees : List Tree) (origins : Sources) (b : 
   pub running : b.failed ≡ false
   pub numbered : HaveNumbers number (all_definitions trees)
 
--- no number is left for an extension, which is told alone; or memory ran out
+-- no number is left for an extension, which is the only fault told; or memory ran out
 abbrev pub RefusalOfNumbers : ℕ → List Tree → Refusal → Type 0
 RefusalOfNumbers number trees (Faults list) = (diagnostics_of list ≡ spent ∷ []) × (HaveNumbers number (all_definitions trees) → ⊥)
 RefusalOfNumbers number trees Memory = Unit {0}
 RefusalOfNumbers number trees Failed = ⊥
 
--- what is said of the refusal of a builder that has not failed
+-- the refusal that answers a refusal of a builder that had not failed
 abbrev pub IsOfBuilder : BuilderRefusal → Refusal → Type 0
 IsOfBuilder builder.Spent refusal = TellsOnly spent refusal
 IsOfBuilder builder.Memory refusal = refusal ≡ Memory
@@ -66,7 +65,7 @@ pub record RefusesFolding (b : BuilderValue) (faults : List AnyFault) : Type 0 w
   pub right : (fault : AnyFault) → Contains faults fault → (f : folding.BuildFault) × ((fault ≡ of_folding f) × FailsIn b f)
   pub full : (f : folding.BuildFault) → FailsIn b f → Contains faults (of_folding f)
 
--- nothing is built: rules are broken, or memory ran out
+-- no schema is built: folding rules are broken, or memory ran out
 abbrev pub RefusalOfFolding : BuilderValue → Refusal → Type 0
 RefusalOfFolding b (Faults list) = RefusesFolding b (diagnostics_of list)
 RefusalOfFolding b Memory = Unit {0}
@@ -74,8 +73,8 @@ RefusalOfFolding b Failed = ⊥
 
 -- ---- rules on schemas
 
--- they are broken so, or the bound on references is passed, and all that breaks them is told, of those on cycles some, unless as many
--- are told as one call tells
+-- rules on schemas are broken, or the bound on references is passed; each breach is told, but of rules on cycles some may be missing, unless as
+-- many are told as one call tells
 pub record RefusesSchemaRules (schema : SchemaTree Place) (faults : List AnyFault) : Type 0 where
   pub some : faults ≢ []
   pub right : (fault : AnyFault) → Contains faults fault → (f : PlacedFault) × ((fault ≡ of_rule f) × (RulesFail schema f ⊎ BoundFails schema f))

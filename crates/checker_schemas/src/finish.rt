@@ -1,4 +1,4 @@
-//! The schema of texts: built and judged, where each is read.
+//! The schema of texts: built and judged, if each is read.
 
 ghost use Rattle.std.specs.Prelude.{◌≡◌, ◌≢◌, [], false, map, OnOk, IfOk, IfErr};
 ghost use Rattle.tree_definitions.specs.DefinitionTree.{document_tree};
@@ -29,7 +29,7 @@ use tree_definitions::Document;
 pub struct JudgedTexts {
     /// How many brackets may be open at once.
     pub nesting: usize,
-    /// The number of a document that comes after the texts; `u64::MAX`, which no text gets, where none is left for it.
+    /// The number of a document that comes after the texts; `u64::MAX`, which no text gets, if none is left for it.
     pub number: u64,
     /// The schema as it is written: as it was built.
     pub written: Document,
@@ -39,8 +39,8 @@ pub struct JudgedTexts {
 
 /// The schema of the texts, if they are accepted.
 ///
-/// Otherwise it tells what is wrong: a fault for each text that is not read, alone; else each folding rule that is broken;
-/// where none is, the first 1,000 breaches of rules on schemas.
+/// Otherwise it tells what is wrong: if texts are not read, only a fault for each of them; else each folding rule that is
+/// broken; if none is, the first 1,000 breaches of rules on schemas.
 pub fn schema_of_texts(texts: SchemaTexts) -> Result<JudgedTexts, Refusal>
     requires { IsReadingOf (texts_of texts) texts }
     ensures schema { IfOk result (λ s. IsCheckedSchemaOf (terms_of texts) (texts_of texts) (judged_value s)) }
@@ -79,7 +79,7 @@ fn filled(
     Ok(builder)
 }
 
-/// What is said where a builder that has not failed adds nothing.
+/// The refusal if a builder that has not failed adds nothing.
 fn unfilled(alloc: Global, refusal: BuilderRefusal) -> Refusal
     requires { refusal ≢ Failed }
     ensures { IsOfBuilder refusal result }
@@ -100,12 +100,12 @@ fn build(alloc: Global, builder: SchemaBuilder) -> Result<(Schema, DiagnosticLis
     match builder.build() {
         Ok((schema, errors)) => Ok((schema, schema_errors(alloc, errors)?)),
         Err(BuilderRefusal::Memory) => Err(AllocError),
-        // Numbers are asked for where definitions are added, and this builder has not failed.
+        // Numbers are taken when definitions are added, and this builder has not failed.
         Err(BuilderRefusal::Spent | BuilderRefusal::Failed) => unreachable!(),
     }
 }
 
-/// The schema that the definitions fold to, where no folding rule is broken.
+/// The schema that the definitions fold to, if no folding rule is broken.
 fn built(alloc: Global, builder: SchemaBuilder) -> Result<Schema, Refusal>
     requires { (builder_value builder).failed ≡ false }
     ensures built { IfOk result (λ s. BuildsSchema (builder_value builder) (schema_tree s) []) }
@@ -113,7 +113,7 @@ fn built(alloc: Global, builder: SchemaBuilder) -> Result<Schema, Refusal>
     ensures refused { IfErr result (RefusalOfFolding (builder_value builder)) }
 {
     let (schema, faults) = build(alloc, builder)?;
-    // The rules on schemas are about a whole fold: where that is wrong they are not judged.
+    // The rules on schemas are about a fold without faults: they are not judged if there are any.
     if !faults.is_empty() {
         return Err(Refusal::Faults(faults));
     }

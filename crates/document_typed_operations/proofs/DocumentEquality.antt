@@ -7,9 +7,9 @@ use Rattle.graphql_names.specs.Node.{content}
 use Rattle.graphql_names.specs.declared.node.Node.{Node}
 use Rattle.graphql_names.specs.Placed.{name_tree, node_tree, unplaced_text}
 use Rattle.tree_operations.specs.OperationTree.{variable_definition_tree, unplaced_variable_definition}
-use Rattle.schema_types.proofs.in_values.Decided.{through, pair_decides, name_decides, nodes_decide, options_decide}
-use Rattle.schema_types.proofs.in_values.DirectiveEquality.{directive_list_eq-Decides}
-use Rattle.schema_types.proofs.in_values.OperationEquality.{operation_type_eq-Decides, variable_definition_eq, variable_definition_eq-Decides}
+use Rattle.schema_types.proofs.in_operations.Decided.{through, pair_decides, name_decides, nodes_decide, options_decide}
+use Rattle.schema_types.proofs.in_operations.DirectiveEquality.{directive_list_eq-Decides}
+use Rattle.schema_types.proofs.in_operations.OperationEquality.{operation_type_eq-Decides, variable_definition_eq, variable_definition_eq-Decides}
 use Rattle.schema_types.proofs.in_components.NamedEquality.{maps_decide}
 use Rattle.schema_types.specs.in_components.Names.{named, entries_of}
 use Rattle.schema_types.specs.TypeView.{name_text}

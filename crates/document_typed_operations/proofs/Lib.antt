@@ -2,3 +2,11 @@ pub mod TypedSets
 pub mod OperationMaps
 pub mod DocumentEquality
 pub mod Written
+pub mod Finding
+pub mod Passing
+pub mod Standings
+pub mod Whole
+pub mod WalkLaws
+pub mod Reaching
+pub mod Gathering
+pub mod WalkExamples

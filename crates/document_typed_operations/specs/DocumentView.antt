@@ -7,7 +7,7 @@ use Rattle.document_typed_selections.specs.TypedTree.{set_type}
 use Rattle.document_typed_operations.specs.TypedDocument.{TypedOperation, TypedFragment, TypedDocumentTree, typed_operation_tree, typed_document_tree}
 use Rattle.document_typed_operations.specs.declared.operation.Operation.{Operation}
 use Rattle.document_typed_operations.specs.declared.document.ExecutableDocument.{ExecutableDocument}
-use Rattle.document_meaning.specs.MeantTree.{MeantOperation, MeantFragment, MeantDocument, meant_of_set}
+use Rattle.spec_document.specs.MeantTree.{MeantOperation, MeantFragment, MeantDocument, meant_of_set}
 
 module _ {P : Type 0} where
   abbrev pub meant_by_operation : Placed P (TypedOperation P) → MeantOperation P
@@ -37,7 +37,7 @@ module _ {P : Type 0} where
     fragments = map (λ e. (e.0, meant_by_fragment e.1)) d.fragments;
   }
 
--- what a document, what an operation means
+-- the meaning of a document, and of an operation
 abbrev pub document_meant : ExecutableDocument → MeantDocument Place
 document_meant d = meant_document (typed_document_tree d)
 

@@ -5,3 +5,8 @@ pub mod OperationsByName
 pub mod ToAst
 pub mod Writing
 pub mod Lent
+pub mod Reached
+pub mod Left
+pub mod WalkView
+pub mod Stepping
+pub mod Lending

@@ -12,12 +12,12 @@ use Rattle.document_typed_operations.specs.TypedDocument.{TypedOperation, TypedO
 use Rattle.document_typed_operations.specs.declared.operation.Operation.{Operation}
 use Rattle.document_typed_operations.specs.declared.operation_map.Operations.{Operations}
 
--- the entries with this under the name: in the place of what stood under it, else last
+-- the entries with this value under the name: it replaces the first value under that name, or else is added last
 abbrev pub put_under : {A : Type 0} → List ℕ → A → Entries A → Entries A
 put_under name a [] = (name, a) ∷ []
 put_under name a (e ∷ es) = if bytes_eq name e.0 then (e.0, a) ∷ es else e ∷ put_under name a es
 
--- private: the entries with this in the first of them
+-- private: the entries with this value in the first of them
 abbrev pub first_under : {A : Type 0} → A → Entries A → Entries A
 first_under a [] = []
 first_under a (e ∷ es) = (e.0, a) ∷ es
@@ -27,7 +27,7 @@ abbrev pub only : {A : Type 0} → List A → Option A
 only (x ∷ []) = Some x
 only _ = None
 
--- the text of the name that is asked for, if one is
+-- the text of the requested name, if there is one
 abbrev pub asked_name : {K : Type 0} → (K → List ℕ) → Option (Bor K) → Option (List ℕ)
 asked_name text name = option_map text (option_copied name)
 
@@ -36,12 +36,12 @@ module _ {P : Type 0} where
   abbrev pub operations_list : TypedOperations P → List (Placed P (TypedOperation P))
   operations_list t = cons_option t.anonymous (map (λ e. e.1) t.named)
 
-  -- the operation of that name, or where none is asked for the only operation (GetOperation of section 6.1)
+  -- the operation of that name, or without a name the only operation (GetOperation of section 6.1)
   abbrev pub operation_called : Option (List ℕ) → TypedOperations P → Option (Placed P (TypedOperation P))
   operation_called (Some name) t = under name t.named
   operation_called None t = only (operations_list t)
 
-  -- private: the same where none stands for the operation without a name
+  -- private: the operation of that name, or for `None` the operation without a name
   abbrev pub operation_at : Option (Text P) → TypedOperations P → Option (Placed P (TypedOperation P))
   operation_at None t = t.anonymous
   operation_at (Some name) t = under name.it t.named
@@ -50,24 +50,24 @@ module _ {P : Type 0} where
   put_at None o t = record t { anonymous = Some o }
   put_at (Some name) o t = record t { named = put_under name.it o t.named }
 
-  -- what stands under the name of an operation, or without one where it has none
+  -- the operation of t with the name of o, or, if o has no name, the one without a name
   abbrev pub standing_for : Placed P (TypedOperation P) → TypedOperations P → Option (Placed P (TypedOperation P))
   standing_for o t = operation_at o.it.name t
 
-  -- the operations with this one in its place
+  -- the operations with o under its name, or, if o has no name, as the one without a name
   abbrev pub with_operation : Placed P (TypedOperation P) → TypedOperations P → TypedOperations P
   with_operation o t = put_at o.it.name o t
 
-  -- private: the operations with this one in the place of the first, which has no name where one has none
+  -- private: the operations with this one instead of the first, which is the one without a name if there is one
   abbrev pub first_as : Option (Placed P (TypedOperation P)) → Placed P (TypedOperation P) → TypedOperations P → TypedOperations P
   first_as (Some _) o t = record t { anonymous = Some o }
   first_as None o t = record t { named = first_under o t.named }
 
-  -- the operations with this one in the place of the one that is called so; all else is as it was
+  -- the operations with this one under that name, or without a name instead of the first; all else is unchanged
   abbrev pub called_as : Option (List ℕ) → Placed P (TypedOperation P) → TypedOperations P → TypedOperations P
   called_as (Some name) o t = record t { named = put_under name o t.named }
   called_as None o t = first_as t.anonymous o t
 
--- the operations that an iterator has left
+-- the operations that an iterator has still to yield
 abbrev pub left_operations : Operations → List (Node Operation)
 left_operations it = cons_option (option_copied it.anonymous) it.named

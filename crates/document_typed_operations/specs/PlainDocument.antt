@@ -1,4 +1,4 @@
--- Operations, fragments and documents without places, and without the order of what has names.
+-- Operations, fragments and documents without places, and without the order of named operations and of fragments.
 use Rattle.std.specs.Prelude.{map, Option}
 use Rattle.std.specs.Option.{option_map}
 use Rattle.graphql_names.specs.Placed.{Placed, unplaced_text, unplaced_node}
@@ -33,7 +33,7 @@ module _ {P : Type 0} where
     set = unplaced_typed_set f.set;
   }
 
-  -- the same of what stands at a place
+  -- the same for an operation and a fragment with a place
   abbrev pub plain_operation : Placed P (TypedOperation P) → TypedOperation (Unit {0})
   plain_operation o = unplaced_typed_operation o.it
 
@@ -43,7 +43,7 @@ module _ {P : Type 0} where
   abbrev pub plain_operations : TypedOperations P → PlainOperations
   plain_operations t = record { anonymous = option_map plain_operation t.anonymous; named = named plain_operation t.named }
 
-  -- two documents are equal where this is the same of both
+  -- two documents are equal when `plain_document` of both is the same
   abbrev pub plain_document : TypedDocumentTree P → PlainDocument
   plain_document d = record {
     operations = record { anonymous = option_map plain_operation d.anonymous; named = named plain_operation d.named };

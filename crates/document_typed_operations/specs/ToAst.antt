@@ -1,4 +1,4 @@
--- A document under a schema as it is written: without definitions and types, its operations, one without a name first, and then its fragments, each in order (GraphQL, October 2021, sections 2.2, 2.3 and 2.8).
+-- A document under a schema as it is written, without definitions and types: its operations, one without a name first, and then its fragments, each in order (GraphQL, October 2021, sections 2.2, 2.3 and 2.8).
 use Rattle.std.specs.Prelude.{List, ◌++◌, map, option_to_list}
 use Rattle.graphql_names.specs.Placed.{Placed}
 use Rattle.tree_operations.specs.SelectionTree.{SelectionTree, FieldTree, SpreadTree, InlineTree, SelectionTrees, no_selections, selection_then}
@@ -22,7 +22,7 @@ abbrev mutual
   ast_selections (typed_then s ss) = selection_then (ast_selection s) (ast_selections ss)
 
 module _ {P : Type 0} where
-  -- an operation that selects this
+  -- an operation with these selections
   abbrev pub operation_with : TypedOperation P → SelectionTrees P → OperationTree P
   operation_with o selections = record {
     operation_type = o.operation_type;
@@ -32,7 +32,7 @@ module _ {P : Type 0} where
     selections = selections;
   }
 
-  -- a fragment that selects this; its condition is the type of its set
+  -- a fragment with these selections; its type condition is the type of its set
   abbrev pub fragment_with : TypedFragment P → SelectionTrees P → FragmentTree P
   fragment_with f selections = record {
     name = f.name;

@@ -15,7 +15,7 @@ use Rattle.document_typed_operations.specs.declared.operation.Fragment.{Fragment
 use Rattle.document_typed_operations.specs.declared.operation_map.OperationMap.{OperationMap}
 use Rattle.document_typed_operations.specs.declared.document.ExecutableDocument.{ExecutableDocument}
 
--- operation_type name(variables) @directives { }, its set over the root type
+-- operation_type name(variables) @directives { }, with its set on the root type
 pub record TypedOperation (P : Type 0) : Type 0 where
   pub operation_type : OperationType
   pub name : Option (Text P)
@@ -34,7 +34,7 @@ pub record TypedOperations (P : Type 0) : Type 0 where
   pub anonymous : Option (Placed P (TypedOperation P))
   pub named : Entries (Placed P (TypedOperation P))
 
--- the same, and the fragments under their names, in order
+-- the same operations, and the fragments under their names, in order
 pub record TypedDocumentTree (P : Type 0) : Type 0 where
   pub anonymous : Option (Placed P (TypedOperation P))
   pub named : Entries (Placed P (TypedOperation P))
@@ -49,7 +49,7 @@ typed_operation_tree o = record {
   set = typed_set_tree o.selection_set;
 }
 
--- the same of nodes of operations
+-- the same for nodes of operations
 abbrev pub typed_operation_node : Node Operation → Placed Place (TypedOperation Place)
 typed_operation_node = node_tree typed_operation_tree
 
@@ -60,7 +60,7 @@ typed_fragment_tree f = record {
   set = typed_set_tree f.selection_set;
 }
 
--- the operations that stand for these
+-- what contracts see of a map of operations, given the text of a key and the tree of an operation
 abbrev pub operations_by : {K O : Type 0} → (K → List ℕ) → (O → Placed Place (TypedOperation Place)) → OperationMap K O → TypedOperations Place
 operations_by text tree m = record { anonymous = option_map tree m.anonymous; named = entries_of text tree m.named }
 

@@ -1,4 +1,4 @@
--- Private: leads to `ToAst.antt`. What is written of parts of a document as the program has them.
+-- Private: leads to `ToAst.antt`. What is written for the parts of a document as the program has them.
 use Rattle.std.specs.Prelude.{◌≡◌, ◌++◌, List, map, Vec}
 use Rattle.std.specs.Option.{option_map}
 use Rattle.std.specs.declared.alloc.Global.{Global}
@@ -18,18 +18,18 @@ use Rattle.document_typed_operations.specs.ToAst.{ast_operation, ast_fragment}
 use Rattle.document_typed_operations.specs.declared.operation.Operation.{Operation}
 use Rattle.document_typed_operations.specs.declared.operation.Fragment.{Fragment}
 
--- a field, an inline fragment, with these selections as they are written
+-- a field and an inline fragment as they are written, with these selections
 abbrev pub field_with : Node Field → Vec Selection Global → SelectionTree Place
 field_with node selections = FieldTree (place node) (typed_head (content node)) (selection_trees selection_tree selections.items)
 
 abbrev pub inline_with : Node InlineFragment → Vec Selection Global → SelectionTree Place
 inline_with node selections = InlineTree (place node) (option_map name_tree (content node).type_condition) (directives_tree (content node).directives) (selection_trees selection_tree selections.items)
 
--- the definitions that were there, and after them these
+-- the new definitions are the old ones followed by these
 abbrev pub Writes : Vec Definition Global → Vec Definition Global → List (DefinitionTree Place) → Type 0
 Writes old new written = map definition_tree new.items ≡ map definition_tree old.items ++ written
 
--- operations, fragments, each as it is written
+-- operations and fragments, each as it is written
 abbrev pub written_operations : List (Node Operation) → List (DefinitionTree Place)
 written_operations operations = map (λ n. ast_operation (node_tree typed_operation_tree n)) operations
 

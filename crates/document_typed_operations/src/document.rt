@@ -13,7 +13,7 @@ use std::alloc::Global;
 pub type FragmentMap = IndexMap<Name, Node<Fragment>>;
 
 /// A document under a schema (section 2.2): its operations and its fragments, and the texts that it was read from, by the
-/// numbers of their files. Equality ignores these texts, places and the order of what has names.
+/// numbers of their files. Equality ignores these texts, places and the order of what is named.
 #[derive_where(PartialEq, Eq)]
 pub struct ExecutableDocument {
     #[derive_where(skip)]
@@ -53,7 +53,7 @@ impl Drop for FieldSet {
 }
 
 impl ExecutableDocument {
-    /// A document of no sources, operations or fragments. It takes no memory.
+    /// A document without sources, operations and fragments. It takes no memory.
     pub fn new(alloc: Global) -> ExecutableDocument
         ensures tree { typed_document_tree result ≡ record { anonymous = None; named = []; fragments = [] } }
         ensures sources { result.sources.entries ≡ [] }

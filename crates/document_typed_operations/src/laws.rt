@@ -1,4 +1,4 @@
-//! What equality means: exactly that the trees are the same apart from places, sources and the order of what has names.
+//! What equality means: exactly that the trees are the same apart from places, sources and the order of what is named.
 //! What is written through a borrow replaces what was lent.
 ghost use Rattle.std.specs.Prelude.{◌≡◌, ◌↔◌, IsTrue, is_some, if◌then◌else◌};
 ghost use Rattle.std.specs.Option.{option_map, option_copied};
@@ -14,7 +14,7 @@ use crate::operation::{Fragment, Operation};
 use crate::operation_map::OperationMap;
 use graphql_names::{Name, Node};
 
-/// Whether two operations are the same apart from places: what `==` answers.
+/// Whether two operations are the same apart from places: the result of `==`.
 #[tactic(auto, using(crate::proofs::DocumentEquality::equality))]
 pub fn equal_operations(a: &Operation, b: &Operation) -> bool
     ensures { IsTrue result ↔ (unplaced_typed_operation (typed_operation_tree a.now) ≡ unplaced_typed_operation (typed_operation_tree b.now)) }
@@ -22,7 +22,7 @@ pub fn equal_operations(a: &Operation, b: &Operation) -> bool
     *a == *b
 }
 
-/// Whether two fragments are the same apart from places: what `==` answers.
+/// Whether two fragments are the same apart from places: the result of `==`.
 #[tactic(auto, using(crate::proofs::DocumentEquality::equality))]
 pub fn equal_fragments(a: &Fragment, b: &Fragment) -> bool
     ensures { IsTrue result ↔ (unplaced_typed_fragment (typed_fragment_tree a.now) ≡ unplaced_typed_fragment (typed_fragment_tree b.now)) }
@@ -30,7 +30,7 @@ pub fn equal_fragments(a: &Fragment, b: &Fragment) -> bool
     *a == *b
 }
 
-/// Whether two documents are the same apart from places, sources and order: what `==` answers.
+/// Whether two documents are the same apart from places, sources and order: the result of `==`.
 #[tactic(auto, using(crate::proofs::DocumentEquality::equality))]
 pub fn equal_documents(a: &ExecutableDocument, b: &ExecutableDocument) -> bool
     ensures { IsTrue result ↔ (plain_document (typed_document_tree a.now) ≡ plain_document (typed_document_tree b.now)) }
@@ -38,7 +38,7 @@ pub fn equal_documents(a: &ExecutableDocument, b: &ExecutableDocument) -> bool
     *a == *b
 }
 
-/// Whether two field sets are the same apart from places and sources: what `==` answers.
+/// Whether two field sets are the same apart from places and sources: the result of `==`.
 #[tactic(auto, using(crate::proofs::DocumentEquality::equality))]
 pub fn equal_field_sets(a: &FieldSet, b: &FieldSet) -> bool
     ensures { IsTrue result ↔ (unplaced_typed_set (typed_set_tree a.now.selection_set) ≡ unplaced_typed_set (typed_set_tree b.now.selection_set)) }
@@ -46,8 +46,8 @@ pub fn equal_field_sets(a: &FieldSet, b: &FieldSet) -> bool
     *a == *b
 }
 
-/// Writes an operation through what `get_mut` lends: it replaces the one that was lent, and nothing else changes. Whether
-/// one was lent.
+/// Writes an operation through what `get_mut` lends: it replaces the one that was lent, and nothing else changes. Returns
+/// whether one was lent.
 pub fn lent_operations_are_written(
     operations: &mut OperationMap,
     name: Option<&Name>,

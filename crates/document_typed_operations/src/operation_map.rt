@@ -17,15 +17,15 @@ use std::hash::Hash;
 
 /// The operation without a name, if there is one, and the others under their names, in order. Equality ignores the order.
 ///
-/// It is `OperationMap` alone, of names and nodes of operations. It has them as parameters so that what `get_mut` lends is
-/// followed back to it: the borrow checker does not follow a call's result in which a name stands.
+/// Its only use is `OperationMap`, of names and nodes of operations. These are parameters so that the borrow checker can
+/// follow what `get_mut` lends back to the map: it does not follow a call's result whose type has a name in it.
 #[derive(PartialEq, Eq)]
 pub struct OperationMap<K: Eq + Hash = Name, O = Node<Operation>> {
     pub anonymous: Option<O>,
     pub named: IndexMap<K, O>,
 }
 
-/// What operations stand under: contracts see its text.
+/// The key of an operation: contracts see its text.
 pub trait OperationKey: Eq + Hash {
     ghost use Rattle.std.specs.Prelude.{◌≡◌, ℕ, List};
     ghost use Rattle.std.specs.Str.{bytes_eq};
@@ -35,7 +35,7 @@ pub trait OperationKey: Eq + Hash {
     ghost same_text: { (a b : Self) → Self.PartialEq.eq a b ≡ bytes_eq (text_of a) (text_of b) };
 }
 
-/// What stands for an operation: contracts see the operation at its place.
+/// The entry of an operation: contracts see the operation at its place.
 pub trait OperationEntry {
     ghost use Rattle.graphql_names.specs.Placed.{Place, Placed};
     ghost use Rattle.document_typed_operations.specs.TypedDocument.{TypedOperation};
@@ -80,7 +80,7 @@ impl OperationMap {
         }
     }
 
-    /// This operation alone.
+    /// Only this operation.
     pub fn from_one(alloc: Global, operation: Node<Operation>) -> Result<OperationMap, AllocError>
         ensures { IfOk result (λ m. typed_operations_tree m ≡ with_operation (typed_operation_node operation) (record { anonymous = None; named = [] })) }
     {
@@ -128,8 +128,8 @@ impl OperationMap {
         }
     }
 
-    /// Puts the operation under its name, or without one where it has none, and gives back what stood there. Where
-    /// memory is refused nothing changes.
+    /// Puts the operation under its name, or as the one without a name if it has none, and returns the one that it replaces.
+    /// If memory runs out, nothing changes.
     pub fn insert(
         &mut self,
         operation: Node<Operation>,

@@ -1,5 +1,5 @@
-//! Selections as they are written: without definitions and types. What copies is not inlined, so that it takes no stack at each
-//! level of selections.
+//! Selections as they are written: without definitions and types. The functions that copy are not inlined, so that they take no
+//! stack at each level of selections.
 ghost use Rattle.std.specs.Prelude.{◌≡◌, IfOk};
 ghost use Rattle.tree_operations.specs.SelectionTree.{selection_tree, selection_trees};
 ghost use Rattle.document_typed_selections.specs.TypedTree.{typed_selection_tree, typed_set_tree};
@@ -14,7 +14,7 @@ use std::alloc::{AllocError, Global};
 use tree_literals::{copies_of_four, copies_of_two};
 use tree_operations as ast;
 
-/// The selections of a set, which share what they hold.
+/// The selections of a set as they are written; what they hold is shared.
 #[cycle(writing)]
 pub(crate) fn set_to_ast(
     alloc: Global,
@@ -24,7 +24,7 @@ pub(crate) fn set_to_ast(
 {
     let mut written = Vec::new(alloc);
     for selection in &set.selections {
-        // Both `?` are in the helper, so that none stands here with the list and a selection owned.
+        // Both `?` are in the helper, so that none is here while the list and a selection are owned.
         push_made(&mut written, selection_to_ast(alloc, selection))?;
     }
     Ok(written)
@@ -43,7 +43,7 @@ fn selection_to_ast(alloc: Global, selection: &Selection) -> Result<ast::Selecti
     }
 }
 
-/// A field with what it selects.
+/// A field with its selections.
 #[cycle(writing)]
 fn field_to_ast(alloc: Global, node: &Node<Field>) -> Result<ast::Selection, AllocError>
     ensures { IfOk result (λ s. selection_tree s ≡ ast_selection (typed_field_node node.now)) }
@@ -78,7 +78,7 @@ fn field_with(
     Ok(ast::Selection::Field(node_at(alloc, node, written)?))
 }
 
-/// An inline fragment with what it selects.
+/// An inline fragment with its selections.
 #[cycle(writing)]
 fn inline_to_ast(alloc: Global, node: &Node<InlineFragment>) -> Result<ast::Selection, AllocError>
     ensures { IfOk result (λ s. selection_tree s ≡ ast_selection (typed_inline_node node.now)) }

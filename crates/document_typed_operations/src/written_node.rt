@@ -1,4 +1,4 @@
-//! What is built of nodes, where memory may be refused.
+//! Steps that build nodes, and may run out of memory.
 ghost use Rattle.std.specs.Prelude.{◌≡◌, ◌++◌, [], ◌∷◌, IfOk, IsOkAnd, OnOk};
 ghost use Rattle.graphql_names.specs.Node.{content, place};
 

@@ -9,8 +9,8 @@ use Rattle.tree_definitions.specs.in_operations.SelectionTree.{FieldHead}
 use Rattle.tree_definitions.specs.in_type_members.TypeSystemTree.{FieldDefinitionTree, field_definition_tree, unplaced_field_definition}
 use Rattle.document_typed_selections.specs.TypedTree.{TypedSelection, TypedField, TypedSpread, TypedInline, TypedSet, typed_set, TypedSelections, typed_then, typed_selections, typed_selection_tree, typed_set_tree, unplaced_typed_selection, unplaced_typed_set, unplaced_typed_selections}
 use Rattle.document_typed_selections.specs.TypedParts.{typed_field, typed_spread, typed_inline}
-use Rattle.tree_definitions.proofs.in_values.Decided.{Each, through, carried, pair_decides, name_decides, node_decides, nodes_decide, options_decide}
-use Rattle.tree_definitions.proofs.in_values.DirectiveEquality.{argument_eq, argument_eq-Decides, directive_list_eq-Decides}
+use Rattle.tree_definitions.proofs.in_operations.Decided.{Each, through, carried, pair_decides, name_decides, node_decides, nodes_decide, options_decide}
+use Rattle.tree_definitions.proofs.in_operations.DirectiveEquality.{argument_eq, argument_eq-Decides, directive_list_eq-Decides}
 use Rattle.tree_definitions.proofs.TreeEquality.{field_definition_eq-Decides}
 use Rattle.document_typed_selections.proofs.TypedTrees.{tree_here, typed_selection_tree_out, typed_set_tree_out}
 use Rattle.document_typed_selections.specs.declared.selection.Selection.{Selection}

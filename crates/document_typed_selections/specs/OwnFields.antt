@@ -1,4 +1,4 @@
--- The fields of a set itself, fragments not entered (GraphQL, October 2021, section 2.4).
+-- The fields directly in a selection set, without entering fragments (GraphQL, October 2021, section 2.4).
 use Rattle.std.specs.Prelude.{List, [], ◌∷◌}
 use Rattle.graphql_names.specs.declared.node.Node.{Node}
 use Rattle.document_typed_selections.specs.TypedTree.{TypedSelection, TypedField, TypedSelections, no_typed, typed_then}
@@ -25,6 +25,6 @@ abbrev pub field_nodes : List Selection → List (Node Field)
 field_nodes [] = []
 field_nodes (s ∷ ss) = and_field (out-Selection s) (field_nodes ss)
 
--- the fields that an iterator has left
+-- the fields that an iterator has still to yield
 abbrev pub left_fields : Fields → List (Node Field)
 left_fields it = field_nodes it.rest.now

@@ -1,4 +1,4 @@
--- Fields, fragment spreads and inline fragments by themselves, with parts added, and questions about them (GraphQL,
+-- Fields, fragment spreads and inline fragments outside of sets, with parts added, and queries on them (GraphQL,
 -- October 2021, sections 2.4, 2.5, 2.7 and 2.8).
 use Rattle.std.specs.Prelude.{List, [], ◌++◌, map, Bool, if◌then◌else◌, Option, None, Some, unwrap_or}
 use Rattle.std.specs.Option.{option_map}
@@ -15,7 +15,7 @@ use Rattle.document_typed_selections.specs.declared.selection.Field.{Field}
 use Rattle.document_typed_selections.specs.declared.selection.FragmentSpread.{FragmentSpread}
 use Rattle.document_typed_selections.specs.declared.selection.InlineFragment.{InlineFragment}
 
--- a field without its definition and without what it selects
+-- a field without its definition and without its selection set
 abbrev pub typed_head : Field → FieldHead Place
 typed_head f = record {
   alias = option_map name_tree f.alias;
@@ -28,7 +28,7 @@ typed_head f = record {
 abbrev pub own_definition : Field → Placed Place (FieldDefinitionTree Place)
 own_definition f = node_tree field_definition_tree f.definition
 
--- a field, a fragment spread, an inline fragment that stands at a place
+-- a field, a fragment spread and an inline fragment at a place
 abbrev pub typed_field : Place → Field → TypedSelection Place
 typed_field p f = TypedField p (node_tree field_definition_tree f.definition) (typed_head f) (typed_set_tree f.selection_set)
 
@@ -38,7 +38,7 @@ typed_spread p s = TypedSpread p (name_tree s.fragment_name) (directives_tree s.
 abbrev pub typed_inline : Place → InlineFragment → TypedSelection Place
 typed_inline p f = TypedInline p (option_map name_tree f.type_condition) (directives_tree f.directives) (typed_set_tree f.selection_set)
 
--- the same of nodes of these
+-- the same for nodes of these
 abbrev pub typed_field_node : Node Field → TypedSelection Place
 typed_field_node n = typed_field (place n) (content n)
 
@@ -48,11 +48,11 @@ typed_spread_node n = typed_spread (place n) (content n)
 abbrev pub typed_inline_node : Node InlineFragment → TypedSelection Place
 typed_inline_node n = typed_inline (place n) (content n)
 
--- name, a field of this definition, its set empty on the type inside that of the definition
+-- a field with this name and definition alone; its empty set is on the named type inside the definition's type
 abbrev pub bare_field : Text Place → Placed Place (FieldDefinitionTree Place) → TypedSelection Place
 bare_field n d = TypedField None d (record { alias = None; name = n; arguments = []; directives = [] }) (typed_set (inner_name d.it.ty) no_typed)
 
--- ... on condition { }, its set empty on the type of the condition, or without one on this type
+-- ... on condition { }, its empty set on the type of the condition, or without a condition on this type
 abbrev pub bare_inline : Option (Text Place) → Text Place → TypedSelection Place
 bare_inline condition ty = TypedInline None condition [] (typed_set (unwrap_or condition ty) no_typed)
 
@@ -61,13 +61,13 @@ abbrev pub new_argument : Text Place → Placed Place (ValueTree Place) → Plac
 new_argument n v = record { it = record { name = n; value = v }; place = None }
 
 module _ {P : Type 0} where
-  -- where a selection stands
+  -- the place of a selection
   abbrev pub typed_place : TypedSelection P → P
   typed_place (TypedField p d h s) = p
   typed_place (TypedSpread p n ds) = p
   typed_place (TypedInline p c ds s) = p
 
-  -- the directives that are applied to it
+  -- the directives that are applied to a selection
   abbrev pub typed_directives : TypedSelection P → Directives P
   typed_directives (TypedField p d h s) = h.directives
   typed_directives (TypedSpread p n ds) = ds
@@ -88,7 +88,7 @@ module _ {P : Type 0} where
   as_typed_inline (TypedInline p c ds s) = Some (TypedInline p c ds s)
   as_typed_inline _ = None
 
-  -- further selections behind those of a list, of a set
+  -- the selections of a list, and of a set, with further ones after them
   abbrev pub and_then : TypedSelections P → TypedSelections P → TypedSelections P
   and_then no_typed more = more
   and_then (typed_then s ss) more = typed_then s (and_then ss more)
@@ -96,11 +96,11 @@ module _ {P : Type 0} where
   abbrev pub set_and : TypedSelections P → TypedSet P → TypedSet P
   set_and more (typed_set ty ss) = typed_set ty (and_then ss more)
 
-  -- a set with further selections, if they were added
+  -- a set, with further selections if `added` is true
   abbrev pub set_and_if : Bool → TypedSelections P → TypedSet P → TypedSet P
   set_and_if added more s = if added then set_and more s else s
 
-  -- a field under this alias, or under none
+  -- a field with this alias, or with none
   abbrev pub aliased : Option (Text P) → TypedSelection P → TypedSelection P
   aliased alias (TypedField p d h s) = TypedField p d (record h { alias = alias }) s
   aliased alias t = t

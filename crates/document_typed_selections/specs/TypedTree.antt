@@ -11,7 +11,7 @@ use Rattle.document_typed_selections.specs.declared.selection.Selection.TheOpen.
 use Rattle.document_typed_selections.specs.declared.selection.Selection.TheFolds.{fold-Selection, fold-SelectionSet}
 use Rattle.document_typed_selections.specs.declared.selection.SelectionSet.{SelectionSet}
 
--- a field of this definition, ...name @directives, ... on condition @directives { }; and a set over the type of this name
+-- a field with its definition, ...name @directives, ... on condition @directives { }; and a set on the type of this name
 mutual
   pub data TypedSelection (P : Type 0) : Type 0 where
     TypedField : P → Placed P (FieldDefinitionTree P) → FieldHead P → TypedSet P → TypedSelection P
@@ -51,7 +51,7 @@ selection_step (Field n) = content n (place n)
 selection_step (FragmentSpread n) = TypedSpread (place n) (name_tree (content n).fragment_name) (directives_tree (content n).directives)
 selection_step (InlineFragment n) = content n (place n)
 
--- what a selection, and what a selection set is
+-- what contracts see of a selection, and of a selection set
 abbrev pub typed_selection_tree : Selection → TypedSelection Place
 typed_selection_tree = fold-Selection (TypedSelection Place) AtPlace AtPlace (TypedSet Place) selection_step field_step inline_step set_step
 

@@ -1,4 +1,4 @@
-//! Making fields, and what can be asked of them.
+//! Making fields, and queries on them.
 ghost use Rattle.std.specs.Prelude.{◌≡◌, [], ◌∷◌, map, IfOk, None, Some};
 ghost use Rattle.std.specs.Option.{option_map, option_copied};
 ghost use Rattle.graphql_names.specs.Placed.{name_tree, node_tree};
@@ -20,7 +20,7 @@ use tree_literals::{Type, Value};
 
 #[tactic(auto, using(crate::proofs::TypedTrees::added_rules))]
 impl Field {
-    /// `name`, a field of that definition, its set on the inner type of the definition.
+    /// A field with that name and definition; its set is empty, on the inner type of the definition.
     pub fn new(
         alloc: Global,
         name: Name,
@@ -39,14 +39,14 @@ impl Field {
         })
     }
 
-    /// The same under this alias.
+    /// The same with this alias.
     pub fn with_alias(self, alias: Name) -> Field
         ensures { typed_field None result ≡ aliased (Some (name_tree alias)) (typed_field None self) }
     {
         self.with_opt_alias(Some(alias))
     }
 
-    /// The same under this alias, or under none.
+    /// The same with this alias, or with none.
     pub fn with_opt_alias(self, alias: Option<Name>) -> Field
         ensures { typed_field None result ≡ aliased (option_map name_tree alias) (typed_field None self) }
     {
@@ -59,7 +59,7 @@ impl Field {
     pub fn with_argument(self, name: Name, value: Node<Value>) -> Result<Field, AllocError>
         ensures { IfOk result (λ f. typed_field None f ≡ and_arguments (new_argument (name_tree name) (node_tree value_tree value) ∷ []) (typed_field None self)) }
     {
-        // Memory comes from where the field's own list has it, as the call is given none.
+        // The allocator is that of the field's own list, as the call is given none.
         let argument = Node::new(*self.arguments.allocator(), Argument { name, value })?;
         self.and_argument(argument)
     }
@@ -148,9 +148,9 @@ impl Field {
         None
     }
 
-    /// The value of the argument of that name: the one given, whatever the definition. Else the default by the field's
-    /// definition, or None where the type is nullable, an implicit null. Else the error `NoSuchArgument` where the
-    /// definition has no such argument, `RequiredArgumentNotSpecified` where that is non-null (section 5.4.2.1).
+    /// The value of the argument of that name: the one given, whatever the definition. Else the default in the field's
+    /// definition, or `None` if the type is nullable, an implicit null. Else the error `NoSuchArgument` if the
+    /// definition has no such argument, `RequiredArgumentNotSpecified` if it is non-null (section 5.4.2.1).
     #[tactic(auto, using(crate::proofs::TypedTrees::argument_named_find))]
     pub fn argument_by_name(&self, name: &str) -> Result<Option<&Node<Value>>, ArgumentByNameError>
         ensures { lent_value result ≡ named_argument_value name.now (typed_head self.now).arguments (Some (own_definition self.now).it.arguments) }

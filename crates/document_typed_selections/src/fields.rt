@@ -5,7 +5,7 @@ ghost use Rattle.document_typed_selections.specs.OwnFields.{left_fields};
 use crate::selection::{Field, Selection};
 use graphql_names::Node;
 
-/// The fields that are left of a selection set itself, in order.
+/// The fields directly in a selection set that are still to be yielded, in order.
 #[derive(Drop)]
 pub struct Fields<'a> {
     pub(crate) rest: &'a [Selection],

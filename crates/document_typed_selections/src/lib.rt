@@ -18,5 +18,5 @@ mod selection_set;
 pub use fields::Fields;
 pub use selection::{Field, FragmentSpread, InlineFragment, Selection, SelectionSet};
 
-// Of the crates beneath, for those above.
+// Of the crates below, for the crates above.
 pub use tree_definitions::{Definition, Document, SourceFile};

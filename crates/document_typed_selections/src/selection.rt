@@ -31,8 +31,8 @@ impl Drop for Selection {
     }
 }
 
-// What is let go lies on the stack meanwhile. Each kind has a function of its own, which is not inlined, so that a level of
-// selections takes the stack of its kind alone.
+// A value is on the stack while it is dropped. Each kind has its own function, which is not inlined, so that a level of
+// selections takes only the stack of its kind.
 
 #[cycle(drop_selection)]
 #[inline(never)]
@@ -49,7 +49,7 @@ fn drop_inline(_node: Node<InlineFragment>) {}
 fn drop_definition(_node: Node<FieldDefinition>) {}
 
 /// `alias: name(arguments) @directives { selections }` (section 2.5), with the definition of the field by that name of
-/// the type that it is selected on (section 5.3.1). The definition is not hashed: it costs much, and tells little beside the name.
+/// the type that it is selected on (section 5.3.1). The definition is not hashed: that would cost much and add little to the name.
 #[cycle(selection)]
 #[derive(PartialEq, Eq)]
 #[derive_where(Hash)]

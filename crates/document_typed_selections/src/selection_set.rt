@@ -32,7 +32,7 @@ impl SelectionSet {
         self.selections.is_empty()
     }
 
-    /// Puts a selection last. Where memory is refused the set stays as it was, and the selection comes back.
+    /// Puts a selection last. If memory runs out, the set is unchanged, and the selection is returned.
     pub fn push(&mut self, selection: Selection) -> Result<(), AllocFailed<Selection>>
         ensures set { typed_set_tree self.new ≡ set_and_if (is_ok result) (typed_then (typed_selection_tree selection) no_typed) (typed_set_tree self.old) }
         ensures value_returned { IfErr result (λ e. e.value ≡ selection) }
@@ -40,7 +40,7 @@ impl SelectionSet {
         self.selections.push(selection)
     }
 
-    /// Puts selections last, in order. Where memory is refused the set stays as it was.
+    /// Puts selections last, in order. If memory runs out, the set is unchanged.
     pub fn extend(&mut self, selections: Vec<Selection>) -> Result<(), AllocError>
         ensures { typed_set_tree self.new ≡ set_and_if (is_ok result) (typed_selections typed_selection_tree selections.items) (typed_set_tree self.old) }
     {
@@ -48,7 +48,7 @@ impl SelectionSet {
         self.selections.append(&mut further)
     }
 
-    /// The fields of the set itself, in order: fragments are not entered.
+    /// The fields directly in the set, in order: fragments are not entered.
     pub fn fields(&self) -> Fields<'_>
         ensures nodes { left_fields result ≡ field_nodes self.now.selections.items }
         ensures trees { map typed_field_node (left_fields result) ≡ fields_in (set_selections (typed_set_tree self.now)) }

@@ -15,7 +15,7 @@ use Rattle.document_typing.specs.Meanings.{Meanings}
 use Rattle.document_typing.specs.KeptDocument.{meant_fragment}
 use Rattle.document_typing.specs.TypingFaults.{typing_fault_at, FragmentNameCollision, UndefinedTypeInNamedFragmentTypeCondition}
 use Rattle.document_typing.specs.SetFaults.{set_faults}
-use Rattle.document_typing.specs.Steps.{Typed, told, faults_if, is_under, with_fragment, and_fragment}
+use Rattle.document_typing.specs.TypedDefinitions.{Typed, told, faults_if, is_under, with_fragment, and_fragment}
 use Rattle.document_typing.specs.StepsView.{fragment_meaning, fragment_meanings}
 use Rattle.document_typing.proofs.KnownNames.{known-under, none-of}
 

@@ -17,7 +17,7 @@ use Rattle.document_typing.specs.Meanings.{Meanings}
 use Rattle.document_typing.specs.KeptDocument.{meant_operation}
 use Rattle.document_typing.specs.TypingFaults.{TypingFault, typing_fault_at, UndefinedRootOperation}
 use Rattle.document_typing.specs.SetFaults.{set_faults}
-use Rattle.document_typing.specs.Steps.{Typed, told, based, is_under, is_known, name_faults, with_anonymous, with_named, on_root, and_operation}
+use Rattle.document_typing.specs.TypedDefinitions.{Typed, told, based, is_under, is_known, name_faults, with_anonymous, with_named, on_root, and_operation}
 use Rattle.document_typing.specs.StepsView.{named_meanings}
 use Rattle.document_typing.specs.DocumentView.{meant_by_operation, operation_meant}
 use Rattle.document_typing.proofs.DocumentMeant.{optional, entries}

@@ -17,7 +17,7 @@ use Rattle.document_typing.specs.KeptDocument.{Based, based_operation, anonymous
 use Rattle.document_typing.specs.TypingFaults as rule
 use Rattle.document_typing.specs.TypingFaults.{TypingFault, typing_fault_at, TypeSystemDefinition, AmbiguousAnonymousOperation, OperationNameCollision, FragmentNameCollision, UndefinedRootOperation, UndefinedTypeInNamedFragmentTypeCondition, SetFails, DefinitionBreaks, TypingFails}
 use Rattle.document_typing.specs.SetFaults.{set_faults}
-use Rattle.document_typing.specs.Steps.{Typed, faults_if, based, typed_in}
+use Rattle.document_typing.specs.TypedDefinitions.{Typed, faults_if, based, typed_in}
 use Rattle.document_typing.proofs.KeptFirsts.{is-each_place, kept-none, kept-seen, kept-new, first-none, first-seen, first-new}
 use Rattle.document_typing.proofs.KnownNames.{none-of}
 use Rattle.document_typing.proofs.SetFailures.{set-fails, if-told, told-if}

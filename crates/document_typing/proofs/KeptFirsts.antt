@@ -6,7 +6,7 @@ use Rattle.std.specs.Option.{option_map}
 use Rattle.std.proofs.lemmas.List.{append-nil}
 use Rattle.schema_types.specs.in_components.Lists.{each_place, each_place_after, firsts, has_name}
 use Rattle.schema_types.proofs.in_components.Firsts.{has_name-firsts, firsts-push_new, firsts-push_seen}
-use Rattle.document_typing.specs.Steps.{is_under}
+use Rattle.document_typing.specs.TypedDefinitions.{is_under}
 
 -- what grows at each place by what `f` gives there is all that `f` gives
 module _ {X Y : Type 0} (f : List X → X → List Y) (g : List X → List Y) (none : g [] ≡ []) (more : (xs : List X) (x : X) → g (xs ++ x ∷ []) ≡ g xs ++ f xs x) where

@@ -5,7 +5,7 @@ use Rattle.std.specs.Str.{bytes_eq}
 use Rattle.std.specs.Map.{keys_of, lookup}
 use Rattle.std.proofs.lemmas.Map.Made.{is_some-lookup}
 use Rattle.graphql_names.specs.NameValue.{NameValue}
-use Rattle.document_typing.specs.Steps.{is_under}
+use Rattle.document_typing.specs.TypedDefinitions.{is_under}
 
 module _ {V A : Type 0} (view : V → A) (n : NameValue) where
   abbrev seen_as : NameValue × V → List ℕ × A

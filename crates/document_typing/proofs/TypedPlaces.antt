@@ -12,7 +12,7 @@ use Rattle.document_typing.specs.Meanings.{Meanings, inner_type}
 use Rattle.document_typing.specs.KeptSelections.{is_leaf, may_select, kept, kept_all}
 use Rattle.document_typing.specs.KeptDocument.{Based, anonymous_here, named_here, fragment_here, text_or_empty, operation_name, fragment_name, kept_anonymous, kept_named, kept_fragments, meant_operation, meant_fragment, named_entry, fragment_entry, kept_document}
 use Rattle.document_typing.specs.TypedByPlace.{AreTyped, IsOnRoot, IsOnCondition, IsTypedDocument}
-use Rattle.document_typing.specs.Steps.{based}
+use Rattle.document_typing.specs.TypedDefinitions.{based}
 use Rattle.document_typing.proofs.SetFailures.{if-told}
 use Rattle.document_typing.proofs.DocumentFailures.{first-found, kept-found, one-anonymous, one-named, one-fragment}
 

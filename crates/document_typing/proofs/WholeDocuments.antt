@@ -20,7 +20,7 @@ use Rattle.document_typing.specs.TypingFaults as rule
 use Rattle.document_typing.specs.TypingFaults.{TypingFault, SelectionBreaks, StandsIn, SetFails, TypingFails, TypingRules}
 use Rattle.document_typing.specs.FullList.{is_kept}
 use Rattle.document_typing.specs.OutDoc.{is_anonymous, is_named_operation, is_fragment_definition, out_doc, written_selection, written_selections, written_operation, written_fragment, written_document}
-use Rattle.document_typing.specs.Steps.{based}
+use Rattle.document_typing.specs.TypedDefinitions.{based}
 use Rattle.document_typing.proofs.FullLists.{left-out, not-kept}
 use Rattle.document_typing.proofs.DocumentFailures.{fresh, kept-places, kept-given, first-places, first-given, one-anonymous, one-named, one-fragment}
 

@@ -14,7 +14,7 @@ use Rattle.document_typing.specs.declared.refusal.BuilderRefusal.{BuilderRefusal
 use Rattle.document_typing.specs.declared.refusal.BuilderRefusal.TheVariants.{Memory, Failed}
 use Rattle.document_typing.specs.declared.builder.ExecutableDocumentBuilder.{ExecutableDocumentBuilder}
 
--- the schema, if there is one, and what it says, the definitions and the sources that were added, and whether memory ran out
+-- the schema, if there is one, and what typing reads of it; the definitions and the sources that were added; whether memory ran out
 pub record DocumentBuilder : Type 0 where
   pub schema : Option (SchemaTree Place)
   pub meanings : Meanings
@@ -31,7 +31,7 @@ document_builder b = record {
   failed = b.failed;
 }
 
--- a builder of no definitions, under the schema that is lent, if one is
+-- a builder without definitions, under the borrowed schema, if there is one
 abbrev pub empty_builder : Option (Bor Schema) → DocumentBuilder
 empty_builder schema = record {
   schema = schema_under schema;
@@ -41,7 +41,7 @@ empty_builder schema = record {
   failed = false;
 }
 
--- with the definitions and the sources of a document behind the others
+-- the builder with the definitions and the sources of a document added after the others
 abbrev pub and_document : DocumentBuilder → List (DefinitionTree Place) → Sources → DocumentBuilder
 and_document b ds more = record b { definitions = b.definitions ++ ds; sources = with_sources b.sources more }
 
@@ -49,12 +49,12 @@ and_document b ds more = record b { definitions = b.definitions ++ ds; sources =
 abbrev pub built_document : DocumentBuilder → MeantDocument Place
 built_document b = kept_document b.meanings b.definitions
 
--- definitions are not added: from then on the builder has failed
+-- a document is not added: at `Memory` the builder had not failed, and now it has; at `Failed` it had, and it is unchanged
 abbrev pub IsDocumentAddRefusal : DocumentBuilder → DocumentBuilder → BuilderRefusal → Type 0
 IsDocumentAddRefusal old new Memory = (old.failed ≡ false) × (new.failed ≡ true)
 IsDocumentAddRefusal old new Failed = (old.failed ≡ true) × (new ≡ old)
 
--- nothing is built
+-- no document is built: `Memory` if the builder had not failed, `Failed` if it had
 abbrev pub IsDocumentBuildRefusal : DocumentBuilder → BuilderRefusal → Type 0
 IsDocumentBuildRefusal b Memory = b.failed ≡ false
 IsDocumentBuildRefusal b Failed = b.failed ≡ true

@@ -14,11 +14,11 @@ use Rattle.document_typing.specs.KeptSelections.{may_select, kept_all}
 use Rattle.document_typing.specs.TypingFaults.{TypingFault}
 use Rattle.document_typing.specs.SetFaults.{leaf_faults, set_faults}
 
--- what the schema says of a field, without places
+-- the definition of a field, without places
 abbrev pub definition_view : Node FieldDefinition → Definition
 definition_view n = unplaced_field_definition (field_definition_tree (content n))
 
--- what a field selects
+-- the selections of a field
 abbrev pub selected : Node Field → SelectionTrees Place
 selected n = selection_trees selection_tree (content n).selection_set.items
 

@@ -22,15 +22,15 @@ pub record Based (P A : Type 0) : Type 0 where
   pub it : A
 
 module _ {P : Type 0} where
-  -- the operation, if its root is there
+  -- the operation, if its root type exists
   abbrev pub based_operation : Meanings → P → OperationTree P → List (Based P (OperationTree P))
   based_operation m p o = option_to_list (option_map (λ t. record { place = p; base = t; it = o }) (m.root o.operation_type))
 
-  -- the fragment, if its type condition is there
+  -- the fragment, if the type of its condition exists
   abbrev pub based_fragment : Meanings → P → FragmentTree P → List (Based P (FragmentTree P))
   based_fragment m p f = if m.has_type f.type_condition.it then record { place = p; base = f.type_condition.it; it = f } ∷ [] else []
 
-  -- what of these stands here: an operation without a name, an operation with a name, a fragment
+  -- the definition, if it is an operation without a name, an operation with a name, or a fragment, and its root or type condition exists
   abbrev pub anonymous_here : Meanings → DefinitionTree P → List (Based P (OperationTree P))
   anonymous_here m (Operation p o) = if is_none o.name then based_operation m p o else []
   anonymous_here m _ = []
@@ -53,7 +53,7 @@ module _ {P : Type 0} where
   abbrev pub fragment_name : Based P (FragmentTree P) → List ℕ
   fragment_name f = f.it.name.it
 
-  -- ---- what is kept of a list of definitions: of those with a root or a condition the first without a name, and the first of each name
+  -- ---- what is kept of a list of definitions: of those with a root or condition that exists, the first without a name, and the first of each name
 
   abbrev pub kept_anonymous : Meanings → List (DefinitionTree P) → Option (Based P (OperationTree P))
   kept_anonymous m ds = slice_get (flat_map (anonymous_here m) ds) 0
@@ -67,7 +67,7 @@ module _ {P : Type 0} where
   abbrev pub kept_fragments : Meanings → List (DefinitionTree P) → List (Based P (FragmentTree P))
   kept_fragments m ds = firsts fragment_name (flat_map (fragment_here m) ds)
 
-  -- ---- and what it means
+  -- ---- the meaning of what is kept
 
   abbrev pub meant_operation_with : P → OperationTree P → MeantSet P → MeantOperation P
   meant_operation_with p o set = record {

@@ -1,4 +1,4 @@
-pub use Rattle.document_meaning.specs.MeantTree
+pub use Rattle.spec_document.specs.MeantTree
 pub use Rattle.document_typed_operations.specs.DocumentView
 pub mod Meanings
 pub mod KeptSelections
@@ -8,13 +8,13 @@ pub mod FullList
 pub mod OutDoc
 pub mod TypedByPlace
 pub mod DefinedByPlace
-pub use Rattle.fault_document_data.specs.FaultView
+pub use Rattle.fault_document_errors.specs.FaultView
 pub mod MeaningView
 pub mod SetView
 pub mod SetFaults
 pub mod DefinedField
 pub mod Telling
-pub mod Steps
+pub mod TypedDefinitions
 pub mod StepsView
 pub mod BuilderView
 pub use Rattle.graphql_schema.specs as in_schema

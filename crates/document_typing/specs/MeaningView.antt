@@ -14,18 +14,18 @@ use Rattle.document_typing.specs.MeantTree.{MeantSelection, meant}
 use Rattle.document_typing.specs.Meanings.{Meanings, meanings_of}
 use Rattle.document_typing.specs.DefinedByPlace.{AreDefined}
 
--- the schema that is lent, if one is
+-- the borrowed schema, if there is one
 abbrev pub schema_under : Option (Bor Schema) → Option (SchemaTree Place)
 schema_under schema = option_map (λ s. schema_tree s.now) schema
 
--- what typing reads of a schema that is lent, or of none
+-- what typing reads of the borrowed schema, or without a schema
 abbrev pub meanings_under : Option (Bor Schema) → Meanings
 meanings_under schema = meanings_of (option_map (λ s. plain (schema_tree s.now)) schema)
 
--- what typed selections mean
+-- the meaning of typed selections
 abbrev pub meant_selections : Vec Selection Global → List (MeantSelection Place)
 meant_selections v = map (λ s. meant (typed_selection_tree s)) v.items
 
--- typed selections whose fields have their definitions on the type t
+-- these typed selections are on the type t, and each of their fields has its definition
 abbrev pub AreKeptDefined : Option (SchemaTree Place) → List ℕ → Vec Selection Global → Type 0
 AreKeptDefined s t v = AreDefined s t (typed_selections typed_selection_tree v.items)

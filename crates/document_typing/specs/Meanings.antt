@@ -1,4 +1,4 @@
--- What typing reads of a schema: the roots, which types there are, and the fields that can be selected on each (GraphQL, October 2021, sections 3.3.1, 4.1, 4.2 and 5.3.1). Of equal schemas it is the same.
+-- What typing reads of a schema, the same for equal schemas: the roots, which types there are, and the fields that can be selected on each (GraphQL, October 2021, sections 3.3.1, 4.1, 4.2 and 5.3.1).
 use Rattle.std.specs.Prelude.{ℕ, Bool, true, false, List, [], codes, Option, None, Some, is_some}
 use Rattle.std.specs.Option.{option_map_or}
 use Rattle.graphql_names.specs.Placed.{Text}
@@ -17,13 +17,13 @@ use Rattle.graphql_schema.specs.FieldLooks.{field_named}
 use Rattle.document_typing.specs.MeantTree.{Definition}
 
 pub record Meanings : Type 0 where
-  -- the name of the root of an operation, if there is one
+  -- the name of the root type of an operation, if there is one
   pub root : OperationType → Option (List ℕ)
-  -- whether a type of that name is there, is a scalar, is an enum
+  -- whether a type of that name exists, is a scalar, is an enum
   pub has_type : List ℕ → Bool
   pub is_scalar : List ℕ → Bool
   pub is_enum : List ℕ → Bool
-  -- the definition of the field of a name on the type of a name, if there is one
+  -- given the name of a type and the name of a field: the definition of that field on that type, if there is one
   pub field : List ℕ → List ℕ → Option Definition
 
 -- ---- fields by name alone
@@ -35,7 +35,7 @@ bare_name n = record { it = n; place = tt }
 abbrev pub plain_field : List ℕ → InputValues (Unit {0}) → TypeTree (Unit {0}) → Definition
 plain_field n arguments ty = record { description = None; name = bare_name n; arguments = arguments; ty = ty; directives = [] }
 
--- the name inside a field's type
+-- the name of the type inside a field's type
 abbrev pub inner_type : Definition → List ℕ
 inner_type d = (inner_name d.ty).it
 
@@ -78,6 +78,6 @@ meanings_without_schema = record {
   field = λ n m. Some (unknown_definition m);
 }
 
--- of a schema, if there is one
+-- what typing reads of the schema, or without a schema
 abbrev pub meanings_of : Option PlainSchema → Meanings
 meanings_of schema = option_map_or meanings schema meanings_without_schema

@@ -1,4 +1,4 @@
--- What is written of a document: its operations, one without a name first, and then its fragments, each in the order read (GraphQL, October 2021, sections 2.2, 2.3 and 2.8).
+-- What is written of a document: its operations, any without a name first, and then its fragments, each in the order read (GraphQL, October 2021, sections 2.2, 2.3 and 2.8).
 use Rattle.std.specs.Prelude.{◌≡◌, Bool, true, false, not, List, [], ◌++◌, map, option_to_list}
 use Rattle.std.specs.List.{filter}
 use Rattle.tree_operations.specs.OperationLayout.{is_none}
@@ -20,11 +20,11 @@ module _ {P : Type 0} where
   is_fragment_definition (Fragment p f) = true
   is_fragment_definition _ = false
 
-  -- of a document as read
+  -- what is written of a document as read
   abbrev pub out_doc : List (DefinitionTree P) → List (DefinitionTree P)
   out_doc ds = filter is_anonymous ds ++ filter is_named_operation ds ++ filter is_fragment_definition ds
 
--- ---- of a document with its meaning: the same without definitions and types
+-- ---- what is written of a document with its meaning: its operations and fragments without field definitions and types
 
 abbrev mutual
   pub written_selection : {P : Type 0} → MeantSelection P → SelectionTree P
@@ -60,6 +60,6 @@ module _ {P : Type 0} where
   abbrev pub written_document : MeantDocument P → List (DefinitionTree P)
   written_document d = map written_operation (option_to_list d.anonymous) ++ map (λ e. written_operation e.1) d.named ++ map (λ e. written_fragment e.1) d.fragments
 
-  -- where these faults are none, the document has all that was read: the same is written of both
+  -- if there are no faults, the document has all operations and fragments that were read: the same is written of both
   abbrev pub IsWholeWithoutFaults : List (DefinitionTree P) → MeantDocument P → List (TypingFault P) → Type 0
   IsWholeWithoutFaults ds d faults = faults ≡ [] → written_document d ≡ out_doc ds

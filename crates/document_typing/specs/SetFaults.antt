@@ -6,7 +6,7 @@ use Rattle.document_typing.specs.Meanings.{Meanings, inner_type}
 use Rattle.document_typing.specs.KeptSelections.{may_select}
 use Rattle.document_typing.specs.TypingFaults.{TypingFault, typing_fault_at, UndefinedField, SubselectionOnScalarType, SubselectionOnEnumType, UndefinedTypeInInlineFragmentTypeCondition}
 
--- those of a field that selects from a leaf of that name
+-- the faults of a field that has selections although its inner type is the leaf of that name
 abbrev pub leaf_faults : {P : Type 0} → Meanings → P → List ℕ → List (TypingFault P)
 leaf_faults m p t =
     (if m.is_scalar t then typing_fault_at p (SubselectionOnScalarType t) ∷ [] else [])

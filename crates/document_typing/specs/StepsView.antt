@@ -23,7 +23,7 @@ use Rattle.document_typing.specs.TypingFaults.{TypingFault}
 use Rattle.document_typing.specs.SetFaults.{set_faults}
 use Rattle.document_typing.specs.MeaningView.{meanings_under}
 use Rattle.document_typing.specs.DefinedByPlace.{IsDefinedDocument}
-use Rattle.document_typing.specs.Steps.{Typed, told, based, name_faults, and_operation, and_fragment}
+use Rattle.document_typing.specs.TypedDefinitions.{Typed, told, based, name_faults, and_operation, and_fragment}
 use Rattle.document_typing.specs.DocumentView.{meant_by_fragment, operation_meant}
 use Rattle.document_typing.specs.FaultView.{faults_of}
 use Rattle.document_typing.specs.declared.document.TypedDocument.{TypedDocument}
@@ -55,7 +55,7 @@ kept_tree t = record {
   fragments = entries_of name_text (node_tree typed_fragment_tree) t.fragments;
 }
 
--- ---- an operation on this root, a fragment on its condition: what it means, and what is told of its set
+-- ---- an operation on this root and a fragment on its condition: their meanings, and the faults of their sets
 
 abbrev pub meant_on_root : Option (Bor Schema) → NameValue → Node OperationDefinition → MeantOperation Place
 meant_on_root schema root o = meant_operation (meanings_under schema) (based (place o) root.text (operation_tree (content o)))
@@ -69,23 +69,23 @@ meant_on_condition schema f = meant_fragment (meanings_under schema) (record { p
 abbrev pub faults_on_condition : Option (Bor Schema) → Node FragmentDefinition → List (TypingFault Place)
 faults_on_condition schema f = set_faults (meanings_under schema) (fragment_tree (content f)).selections (content f).type_condition.text
 
--- ---- what a definition does to a document that is being typed
+-- ---- how a definition changes a document that is being typed
 
 -- the name of an operation, if it has one
 abbrev pub own_name : Node OperationDefinition → Option (Text Place)
 own_name o = option_map name_tree (content o).name
 
--- faults of the name of an operation are told, which stands beside others or not
+-- the faults of an operation's name are told; `beside` says whether the document has other operations
 abbrev pub TellsName : Bool → Node OperationDefinition → TypedDocument → TypedDocument → Type 0
 TellsName beside o old new = typed_view new ≡ told (name_faults beside (place o) (own_name o) (typed_view old)) (typed_view old)
 
--- an operation is added, which stands beside others or not; a fragment is
+-- an operation is added, or a fragment; `beside` says whether the document has other operations
 abbrev pub AddsOperation : Option (Bor Schema) → Bool → Node OperationDefinition → TypedDocument → TypedDocument → Type 0
 AddsOperation schema beside o old new = typed_view new ≡ and_operation (meanings_under schema) beside (place o) (operation_tree (content o)) (own_name o) (typed_view old)
 
 abbrev pub AddsFragment : Option (Bor Schema) → Node FragmentDefinition → TypedDocument → TypedDocument → Type 0
 AddsFragment schema f old new = typed_view new ≡ and_fragment (meanings_under schema) (place f) (fragment_tree (content f)) (typed_view old)
 
--- if the fields that were kept have their definitions, those that are kept now have them
+-- if all fields that were kept before have their definitions, all fields that are kept now have theirs
 abbrev pub StaysDefined : Option (SchemaTree Place) → TypedDocument → TypedDocument → Type 0
 StaysDefined s old new = IsDefinedDocument s (kept_tree old) → IsDefinedDocument s (kept_tree new)

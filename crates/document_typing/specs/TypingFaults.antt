@@ -8,7 +8,7 @@ use Rattle.tree_directives.specs.DirectiveTree.{Directives}
 use Rattle.tree_definitions.specs.DefinitionTree.{DefinitionTree, Operation, Fragment}
 use Rattle.tree_definitions.specs.Queries.{is_executable, definition_place}
 use Rattle.schema_types.specs.in_components.Lists.{AtSomePlace, has_name}
-pub use Rattle.fault_document_data.specs.DocumentBreaches.{TypingFault, DocumentBreach, TypeSystemDefinition, AmbiguousAnonymousOperation, OperationNameCollision, FragmentNameCollision, UndefinedRootOperation, UndefinedTypeInNamedFragmentTypeCondition, UndefinedTypeInInlineFragmentTypeCondition, SubselectionOnScalarType, SubselectionOnEnumType, UndefinedField}
+pub use Rattle.fault_document_errors.specs.DocumentBreaches.{TypingFault, DocumentBreach, TypeSystemDefinition, AmbiguousAnonymousOperation, OperationNameCollision, FragmentNameCollision, UndefinedRootOperation, UndefinedTypeInNamedFragmentTypeCondition, UndefinedTypeInInlineFragmentTypeCondition, SubselectionOnScalarType, SubselectionOnEnumType, UndefinedField}
 use Rattle.document_typing.specs.MeantTree.{Definition}
 use Rattle.document_typing.specs.Meanings.{Meanings, inner_type}
 use Rattle.document_typing.specs.KeptSelections.{may_select}
@@ -18,7 +18,7 @@ use Rattle.document_typing.specs.KeptDocument.{is_operation, operation_name, fra
 abbrev pub typing_fault_at : {P : Type 0} → P → DocumentBreach P → TypingFault P
 typing_fault_at p breach = record { place = p; breach = breach }
 
--- ---- rules on a selection that stands under the type t
+-- ---- rules on a selection in a set on the type t
 
 -- UndefinedField: a field is valid only if the type that it is selected on defines it (section 5.3.1)
 -- broken by a field that is not defined on the type
@@ -43,20 +43,20 @@ SubselectionOnEnumTypeAt m t (FieldTree p h ts) fault = (d : Definition) × (
 SubselectionOnEnumTypeAt m t _ fault = ⊥
 
 -- UndefinedTypeInInlineFragmentTypeCondition: an inline fragment is valid only if its type is defined (section 5.5.1.2)
--- broken by an inline fragment on a type that is not there
+-- broken by an inline fragment on a type that does not exist
 abbrev pub UndefinedTypeInInlineFragmentTypeConditionAt : {P : Type 0} → Meanings → List ℕ → SelectionTree P → TypingFault P → Type 0
 UndefinedTypeInInlineFragmentTypeConditionAt m t (InlineTree p (Some c) ds ts) fault =
     (m.has_type c.it ≡ false) × (fault ≡ typing_fault_at p (UndefinedTypeInInlineFragmentTypeCondition c.it))
 UndefinedTypeInInlineFragmentTypeConditionAt m t _ fault = ⊥
 
--- one of these rules is broken so by the selection
+-- the selection breaks one of these rules, with this fault
 pub data SelectionBreaks {P : Type 0} (m : Meanings) (t : List ℕ) (s : SelectionTree P) (fault : TypingFault P) : Type 0 where
   undefined_field : UndefinedFieldAt m t s fault → SelectionBreaks m t s fault
   subselection_on_scalar_type : SubselectionOnScalarTypeAt m t s fault → SelectionBreaks m t s fault
   subselection_on_enum_type : SubselectionOnEnumTypeAt m t s fault → SelectionBreaks m t s fault
   undefined_type_in_inline_fragment_type_condition : UndefinedTypeInInlineFragmentTypeConditionAt m t s fault → SelectionBreaks m t s fault
 
--- in the set with these selections on the type t, or in a set at any depth that is kept of it, the selection s stands under the type u
+-- the selection s is in a set on the type u: in these selections, on the type t, or in a set that is kept inside them, at any depth
 pub data StandsIn {P : Type 0} (m : Meanings) (u : List ℕ) (s : SelectionTree P) : List ℕ → SelectionTrees P → Type 0 where
   first : (ss : SelectionTrees P) → StandsIn m u s u (selection_then s ss)
   later : (t : List ℕ) (x : SelectionTree P) (ss : SelectionTrees P) → StandsIn m u s t ss → StandsIn m u s t (selection_then x ss)
@@ -69,15 +69,15 @@ pub data StandsIn {P : Type 0} (m : Meanings) (u : List ℕ) (s : SelectionTree 
       → m.has_type c.it ≡ true → StandsIn m u s c.it ts
       → StandsIn m u s t (selection_then (InlineTree p (Some c) ds ts) ss)
 
--- in a set that is kept of these selections on the type t a selection breaks a rule so
+-- in these selections on the type t, or in a set that is kept inside them, a selection breaks a rule with this fault
 abbrev pub SetFails : {P : Type 0} → Meanings → List ℕ → SelectionTrees P → TypingFault P → Type 0
 SetFails {P} m t ts fault = (u : List ℕ) × ((s : SelectionTree P) × (StandsIn m u s t ts × SelectionBreaks m u s fault))
 
--- these are the faults of such a set: each way in which a selection breaks a rule, and nothing else
+-- these are the faults of a set with these selections on the type t: each way in which a selection breaks a rule, and nothing else
 abbrev pub AreSetFaults : {P : Type 0} → Meanings → List ℕ → SelectionTrees P → List (TypingFault P) → Type 0
 AreSetFaults {P} m t ts faults = (f : TypingFault P) → Contains faults f ↔ SetFails m t ts f
 
--- ---- rules on a definition of the document, behind these
+-- ---- rules on a definition of the document, after those in `before`
 
 -- TypeSystemDefinition: a document is valid only if it holds operations and fragments alone (section 5.1.1)
 -- broken by any other definition
@@ -85,21 +85,21 @@ abbrev pub TypeSystemDefinitionAt : {P : Type 0} → DefinitionTree P → Typing
 TypeSystemDefinitionAt d fault = (is_executable d ≡ false) × (fault ≡ typing_fault_at (definition_place d) TypeSystemDefinition)
 
 -- AmbiguousAnonymousOperation: an operation without a name is valid only if it is the only operation (section 5.2.2.1)
--- broken by an operation without a name beside any other operation of the document
+-- broken by an operation without a name if the document has more than one operation
 abbrev pub AmbiguousAnonymousOperationAt : {P : Type 0} → List (DefinitionTree P) → DefinitionTree P → TypingFault P → Type 0
 AmbiguousAnonymousOperationAt ds (Operation p o) fault =
     (o.name ≡ None) × (1 < length (filter is_operation ds)) × (fault ≡ typing_fault_at p AmbiguousAnonymousOperation)
 AmbiguousAnonymousOperationAt ds _ fault = ⊥
 
 -- OperationNameCollision: an operation is valid only if no earlier one has its name (section 5.2.1.1)
--- broken by an operation whose name a kept one before it has
+-- broken by an operation whose name an earlier kept operation has
 abbrev pub OperationNameCollisionAt : {P : Type 0} → Meanings → List (DefinitionTree P) → DefinitionTree P → TypingFault P → Type 0
 OperationNameCollisionAt {P} m before (Operation p o) fault = (n : Text P) × (
     (o.name ≡ Some n) × (has_name operation_name n.it (kept_named m before) ≡ true) × (fault ≡ typing_fault_at p (OperationNameCollision n.it)))
 OperationNameCollisionAt m before _ fault = ⊥
 
 -- FragmentNameCollision: a fragment definition is valid only if no earlier one has its name (section 5.5.1.1)
--- broken by a fragment whose name a kept one before it has
+-- broken by a fragment whose name an earlier kept fragment has
 abbrev pub FragmentNameCollisionAt : {P : Type 0} → Meanings → List (DefinitionTree P) → DefinitionTree P → TypingFault P → Type 0
 FragmentNameCollisionAt m before (Fragment p f) fault =
     (has_name fragment_name f.name.it (kept_fragments m before) ≡ true) × (fault ≡ typing_fault_at p (FragmentNameCollision f.name.it))
@@ -113,13 +113,13 @@ UndefinedRootOperationAt m (Operation p o) fault =
 UndefinedRootOperationAt m _ fault = ⊥
 
 -- UndefinedTypeInNamedFragmentTypeCondition: a fragment definition is valid only if its type is defined (section 5.5.1.2)
--- broken by a fragment on a type that is not there
+-- broken by a fragment on a type that does not exist
 abbrev pub UndefinedTypeInNamedFragmentTypeConditionAt : {P : Type 0} → Meanings → DefinitionTree P → TypingFault P → Type 0
 UndefinedTypeInNamedFragmentTypeConditionAt m (Fragment p f) fault =
     (m.has_type f.type_condition.it ≡ false) × (fault ≡ typing_fault_at p (UndefinedTypeInNamedFragmentTypeCondition f.type_condition.it))
 UndefinedTypeInNamedFragmentTypeConditionAt m _ fault = ⊥
 
--- one of these rules is broken so by the definition d, which stands in the document ds behind these
+-- the definition d, which comes after those in `before` in the document ds, breaks one of these rules with this fault
 pub data DefinitionBreaks {P : Type 0} (m : Meanings) (ds before : List (DefinitionTree P)) (d : DefinitionTree P) (fault : TypingFault P) : Type 0 where
   type_system_definition : TypeSystemDefinitionAt d fault → DefinitionBreaks m ds before d fault
   ambiguous_anonymous_operation : AmbiguousAnonymousOperationAt ds d fault → DefinitionBreaks m ds before d fault
@@ -128,7 +128,7 @@ pub data DefinitionBreaks {P : Type 0} (m : Meanings) (ds before : List (Definit
   undefined_root_operation : UndefinedRootOperationAt m d fault → DefinitionBreaks m ds before d fault
   undefined_type_in_named_fragment_type_condition : UndefinedTypeInNamedFragmentTypeConditionAt m d fault → DefinitionBreaks m ds before d fault
 
--- ---- a rule of typing is broken so: by a definition, or by a selection in a set that is kept
+-- ---- a rule of typing is broken with this fault: by a definition, or by a selection in a set that is kept
 pub data TypingFails {P : Type 0} (m : Meanings) (ds : List (DefinitionTree P)) (fault : TypingFault P) : Type 0 where
   in_definition : AtSomePlace (λ before d. DefinitionBreaks m ds before d fault) ds → TypingFails m ds fault
   in_operation : (o : _) → Contains (kept_operations m ds) o → SetFails m o.base o.it.selections fault → TypingFails m ds fault

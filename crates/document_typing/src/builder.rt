@@ -17,16 +17,16 @@ use crate::document::type_document;
 use crate::refusal::BuilderRefusal;
 use crate::typing::Typing;
 use document_typed_operations::ExecutableDocument;
-use fault_document_data::BuildError;
+use fault_document_errors::BuildError;
 use graphql_names::{FileId, SourceSpan};
 use graphql_schema::{Schema, add_sources};
 use indexmap::IndexMap;
 use std::alloc::{AllocError, Global};
 use tree_definitions::{Definition, Document, SourceFile};
 
-/// Takes the definitions of documents, and gives them all a meaning under a schema, or without one.
+/// Takes the definitions of documents, and gives all of them a meaning under a schema, or without one.
 ///
-/// Contracts see it by `document_builder` alone: the schema and what it says, the definitions and sources that were added,
+/// Contracts see it only as `document_builder`: the schema and what it says, the definitions and sources that were added,
 /// in order, and whether memory ran out.
 #[derive(Drop)]
 pub struct ExecutableDocumentBuilder<'schema> {
@@ -38,7 +38,7 @@ pub struct ExecutableDocumentBuilder<'schema> {
 }
 
 impl<'schema> ExecutableDocumentBuilder<'schema> {
-    /// A builder of no definitions, under this schema or without one. It takes no memory.
+    /// A builder without definitions, under this schema or without one. It takes no memory.
     pub fn new(alloc: Global, schema: Option<&'schema Schema>) -> ExecutableDocumentBuilder<'schema>
         ensures { document_builder result ≡ empty_builder schema.entry }
     {
@@ -53,7 +53,7 @@ impl<'schema> ExecutableDocumentBuilder<'schema> {
 
     /// Adds the definitions and the sources of a document after the others.
     ///
-    /// Where memory runs out it answers so, and from then on [`BuilderRefusal::Failed`].
+    /// If memory runs out, the answer says so, and from then on it is [`BuilderRefusal::Failed`].
     pub fn add_ast_document(&mut self, document: &Document) -> Result<(), BuilderRefusal>
         ensures running { OnOk result ((document_builder self.old).failed ≡ false) }
         ensures added { OnOk result (document_builder self.new ≡ and_document (document_builder self.old) (document_tree document.now) (sources_of document.now)) }
@@ -65,15 +65,15 @@ impl<'schema> ExecutableDocumentBuilder<'schema> {
         match add_document(&mut self.definitions, &mut self.sources, document) {
             Ok(()) => Ok(()),
             Err(_) => {
-                // The list may now end amid a document, so nothing is added or built any more.
+                // The list may now end in the middle of a document, so nothing is added or built any more.
                 self.failed = true;
                 Err(BuilderRefusal::Memory)
             }
         }
     }
 
-    /// The document that is kept, which is typed by its place and has the schema's definitions, and each way in which a rule of typing is broken. Where
-    /// none is, the whole document is kept.
+    /// The document that is kept, which is typed by its place and has the schema's definitions, and each way in which a rule of
+    /// typing is broken. If none is, the whole document is kept.
     pub fn build(
         self,
     ) -> Result<(ExecutableDocument, Vec<(Option<SourceSpan>, BuildError)>), BuilderRefusal>

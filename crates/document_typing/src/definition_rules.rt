@@ -1,12 +1,12 @@
-//! Rules of typing on definitions: each tells where it is broken.
+//! Rules of typing on definitions: each function tells that its rule is broken.
 ghost use Rattle.std.specs.Prelude.{OnOk};
-ghost use Rattle.fault_document_data.specs.DocumentBreaches as breach;
+ghost use Rattle.fault_document_errors.specs.DocumentBreaches as breach;
 ghost use Rattle.document_typing.specs.TypingFaults.{typing_fault_at};
-ghost use Rattle.document_typing.specs.Steps.{faults_if};
+ghost use Rattle.document_typing.specs.TypedDefinitions.{faults_if};
 ghost use Rattle.document_typing.specs.Telling.{Tells, TellsOne};
 
 use crate::rules::tell;
-use fault_document_data::BuildError;
+use fault_document_errors::BuildError;
 use graphql_names::{Name, SourceSpan};
 use std::alloc::AllocError;
 use tree_operations::OperationType;
@@ -23,7 +23,7 @@ pub(crate) fn type_system_definition(
 }
 
 /// AmbiguousAnonymousOperation: an operation without a name is valid only if it is the only operation (section 5.2.2.1).
-/// This one stands beside others.
+/// This one is not.
 pub(crate) fn ambiguous_anonymous_operation(
     location: Option<SourceSpan>,
     faults: &mut Vec<(Option<SourceSpan>, BuildError)>,
@@ -33,7 +33,7 @@ pub(crate) fn ambiguous_anonymous_operation(
     tell(location, BuildError::AmbiguousAnonymousOperation, faults)
 }
 
-/// UndefinedRootOperation: an operation is valid only if the schema has a root for it (section 3.3.1). It does not have
+/// UndefinedRootOperation: an operation is valid only if the schema has a root for it (section 3.3.1). It has none for
 /// this one.
 pub(crate) fn undefined_root_operation(
     location: Option<SourceSpan>,
@@ -49,8 +49,8 @@ pub(crate) fn undefined_root_operation(
     )
 }
 
-/// OperationNameCollision: an operation is valid only if no earlier one has its name (section 5.2.1.1). Whether an earlier
-/// one has this name is known.
+/// OperationNameCollision: an operation is valid only if no earlier one has its name (section 5.2.1.1). `is_known` says
+/// whether an earlier one has this name.
 pub(crate) fn operation_name_collision(
     is_known: bool,
     location: Option<SourceSpan>,
@@ -70,8 +70,8 @@ pub(crate) fn operation_name_collision(
     )
 }
 
-/// FragmentNameCollision: a fragment definition is valid only if no earlier one has its name (section 5.5.1.1). Whether an
-/// earlier one has this name is known.
+/// FragmentNameCollision: a fragment definition is valid only if no earlier one has its name (section 5.5.1.1). `is_known`
+/// says whether an earlier one has this name.
 pub(crate) fn fragment_name_collision(
     is_known: bool,
     location: Option<SourceSpan>,

@@ -8,7 +8,7 @@ ghost use Rattle.schema_types.specs.SchemaTree.{SchemaTree};
 ghost use Rattle.document_typed_selections.specs.TypedTree.{typed_set_tree};
 ghost use Rattle.document_typing.specs.DocumentView.{operation_meant};
 ghost use Rattle.document_typing.specs.KeptDocument.{is_operation};
-ghost use Rattle.document_typing.specs.Steps.{is_known, and_definition, typed_in};
+ghost use Rattle.document_typing.specs.TypedDefinitions.{is_known, and_definition, typed_in};
 ghost use Rattle.document_typing.specs.StepsView.{fragment_meaning, typed_view, kept_tree, meant_on_root, faults_on_root, meant_on_condition, faults_on_condition, own_name, TellsName, AddsOperation, AddsFragment, StaysDefined};
 ghost use Rattle.document_typing.specs.Telling.{schema_for, meanings_for, Tells};
 ghost use Rattle.document_typing.specs.DefinedByPlace.{IsDefinedSet, IsDefinedDocument};
@@ -22,14 +22,14 @@ use crate::look_ups::{has_type, root_of};
 use crate::selections::type_set;
 use crate::typing::Typing;
 use document_typed_operations::{Fragment, FragmentMap, Operation, OperationMap};
-use fault_document_data::BuildError;
+use fault_document_errors::BuildError;
 use graphql_names::{Name, Node, SourceSpan};
 use std::alloc::{AllocError, Global};
 use tree_definitions::Definition;
 use tree_literals::{copies_of_three, copies_of_two};
 use tree_operations::{FragmentDefinition, OperationDefinition};
 
-/// What is kept of the definitions so far, and what is told of them.
+/// What is kept of the definitions so far, and the faults that are told of them.
 #[derive(Drop)]
 pub(crate) struct TypedDocument {
     pub(crate) operations: OperationMap,
@@ -74,7 +74,7 @@ fn typed_operation(
 {
     let tree = operation.content();
     let set = type_set(typing, root, &tree.selection_set, faults)?;
-    // One `?` for the three copies: each `?` is proved to let go of all that is owned before it.
+    // One `?` for the three copies: each `?` is proved to drop all that is owned before it.
     let (name, variables, directives) = copies_of_three(
         &tree.name,
         &tree.variables,
@@ -124,7 +124,8 @@ impl TypedDocument {
         }
     }
 
-    /// Tells where the name of an operation breaks a rule, or its lack where it stands beside others. Whether an operation that is kept has its name, or has none as it has none.
+    /// Tells if the name of an operation breaks a rule, or if it has none although there are other operations. Returns whether
+    /// a kept operation has the same name, or also has none.
     fn check_name(
         &mut self,
         beside: bool,
@@ -140,7 +141,7 @@ impl TypedDocument {
                 if beside {
                     ambiguous_anonymous_operation(location, &mut self.faults)?;
                 }
-                // Of several without a name each is told, and the first is kept.
+                // If several have no name, each is told, and the first is kept.
                 Ok(self.operations.anonymous.is_some())
             }
             Some(name) => {
@@ -151,7 +152,7 @@ impl TypedDocument {
         }
     }
 
-    /// Adds an operation, which stands beside others or not. It is kept on its root (section 3.3.1), where it is the
+    /// Adds an operation; `beside` says whether there are others. It is kept on its root (section 3.3.1) if it is the
     /// first of its name, or the first without one.
     fn add_operation(
         &mut self,
@@ -165,10 +166,10 @@ impl TypedDocument {
         let operation_type = operation.content().operation_type;
         let is_known = self.check_name(beside, operation)?;
         let Some(root) = root_of(typing.schema, operation_type)? else {
-            // Without a root there is no type to select on, so nothing that it selects is judged.
+            // Without a root there is no type to select on, so its selections are not judged.
             return undefined_root_operation(operation.location(), operation_type, &mut self.faults);
         };
-        // It is not kept, so what it selects is not judged.
+        // It is not kept, so its selections are not judged.
         if is_known {
             return Ok(());
         }
@@ -177,7 +178,7 @@ impl TypedDocument {
         Ok(())
     }
 
-    /// Adds a fragment. It is kept on its condition, where it is the first of its name.
+    /// Adds a fragment. It is kept on its condition if it is the first of its name.
     fn add_fragment(
         &mut self,
         typing: &Typing<'_>,
@@ -191,7 +192,7 @@ impl TypedDocument {
         let location = fragment.location();
         let is_known = self.fragments.contains_key(name);
         fragment_name_collision(is_known, location, name, &mut self.faults)?;
-        // Without that type nothing that the fragment selects has a meaning.
+        // Without that type no selection of the fragment has a meaning.
         if !has_type(typing.schema, condition) {
             return undefined_type_in_named_fragment_type_condition(
                 location,
@@ -235,7 +236,7 @@ pub(crate) fn type_document(
     ensures view { IfOk result (λ t. typed_view t ≡ typed_in (meanings_for typing.now) (map definition_tree definitions.now)) }
     ensures defined { IfOk result (λ t. IsDefinedDocument (schema_for typing.now) (kept_tree t)) }
 {
-    // Before the first is added, which is told as well, if it has no name and another follows.
+    // This comes before the first is added, which is told too if it has no name and another follows.
     let beside = has_two_operations(definitions);
     let mut typed = TypedDocument::new(typing.alloc);
     for definition in definitions {

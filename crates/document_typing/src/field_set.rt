@@ -1,4 +1,4 @@
-//! Typing of selection sets by themselves.
+//! Typing of selection sets that are not in a document.
 ghost use Rattle.std.specs.Prelude.{◌≡◌, [], Some, IfOk};
 ghost use Rattle.graphql_schema.specs.SchemaOf.{schema_tree};
 ghost use Rattle.document_typed_selections.specs.TypedTree.{typed_set_tree};
@@ -14,14 +14,14 @@ ghost use Rattle.document_typing.specs.SetView.{schema_meanings, given_set};
 use crate::selections::type_set;
 use crate::typing::Typing;
 use document_typed_operations::FieldSet;
-use fault_document_data::BuildError;
+use fault_document_errors::BuildError;
 use graphql_names::{Name, SourceSpan};
 use graphql_schema::Schema;
 use indexmap::IndexMap;
 use std::alloc::{AllocError, Global};
 use tree_operations::Selection;
 
-/// The selections that have a meaning under the type of that name, as a set on it, which is typed by its place, and each way
+/// The selections that have a meaning on the type of that name, as a set on it, which is typed by its place, and each way
 /// in which a rule of typing is broken in it.
 pub fn field_set_from_ast(
     alloc: Global,

@@ -1,5 +1,5 @@
-//! Selections with their meaning, added after those that are kept. None of these is inlined, so that what they hold takes no
-//! stack at each level of selections.
+//! Selections with their meaning, added after those that are kept. None of these functions is inlined, so that their locals
+//! take no stack at each level of selections.
 ghost use Rattle.std.specs.Prelude.{[], ◌∷◌, ℕ, List, Option, OnOk};
 ghost use Rattle.graphql_names.specs.Placed.{Place};
 ghost use Rattle.schema_types.specs.SchemaTree.{SchemaTree};

@@ -1,4 +1,4 @@
-//! What a schema says of names, or what holds of them without a schema.
+//! What a schema says of names, or what holds for them without a schema.
 ghost use Rattle.std.specs.Prelude.{◌≡◌, ℕ, Bool, IfOk, IfSome};
 ghost use Rattle.std.specs.FinMap as fin;
 ghost use Rattle.std.specs.Option.{option_map};
@@ -26,8 +26,8 @@ use tree_literals::Type;
 use tree_operations::OperationType;
 use tree_type_members::FieldDefinition;
 
-/// The type of that name, if there is one: what a schema without places has under the name.
-// The call of the schema with another contract: typing knows a schema by what it says without places.
+/// The type of that name, if there is one: the one that a schema without places has under the name.
+// The schema's own call with another contract: typing knows a schema only by what it says without places.
 fn type_named<'schema>(schema: &'schema Schema, name: &Name) -> Option<&'schema ExtendedType>
     ensures found { option_map (λ t. extended_type t.now) result ≡ type_at (schema_tree schema.now) name.now.text }
     ensures unplaced { option_map (λ t. plain_type (extended_type t.now)) result ≡ fin.get (plain (schema_tree schema.now)).types name.now.text }
@@ -35,7 +35,7 @@ fn type_named<'schema>(schema: &'schema Schema, name: &Name) -> Option<&'schema 
     schema.type_named(name)
 }
 
-/// The type of that name, if there is a schema that has one. It is looked up once a set: the name may be long.
+/// The type of that name, if there is a schema that has one. It is looked up once for each set: the name may be long.
 pub(crate) fn type_under<'schema>(
     schema: Option<&'schema Schema>,
     name: &Name,
@@ -49,7 +49,7 @@ pub(crate) fn type_under<'schema>(
     }
 }
 
-/// Whether a type of that name is there. Without a schema each is.
+/// Whether a type of that name exists. Without a schema each does.
 pub(crate) fn has_type(schema: Option<&Schema>, name: &Name) -> bool
     ensures { result ≡ (meanings_under schema.entry).has_type name.now.text }
 {
@@ -98,9 +98,9 @@ fn unknown_field(alloc: Global, name: &Name) -> Result<Node<FieldDefinition>, Al
     Ok(Node::new(alloc, definition)?)
 }
 
-/// The definition of the field of that name on the type of that name, which is the one given, if there is one. It is shared
-/// with the schema; without a schema each field has one.
-// It is not inlined, so that what it holds takes no stack at each level of selections.
+/// The definition of the field of that name on the type of that name; `ty` is that type, if it exists. The definition is
+/// shared with the schema; without a schema each field has one.
+// It is not inlined, so that its locals take no stack at each level of selections.
 #[inline(never)]
 pub(crate) fn definition_of(
     alloc: Global,

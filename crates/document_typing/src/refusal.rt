@@ -1,12 +1,15 @@
 //! Why a builder of documents refuses.
 use std::alloc::AllocError;
+use thiserror::Error;
 
 /// Why a builder of documents refuses.
-#[derive(Clone, Copy, Debug, PartialEq, Eq)]
+#[derive(Clone, Copy, Debug, PartialEq, Eq, Error)]
 pub enum BuilderRefusal {
     /// Memory ran out.
+    #[error("out of memory")]
     Memory,
     /// Memory ran out at an earlier call.
+    #[error("out of memory at an earlier call")]
     Failed,
 }
 

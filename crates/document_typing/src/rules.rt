@@ -1,8 +1,8 @@
-//! The rules of typing on selections: each gives what breaks it. What tells is not inlined, so that it takes no stack at each
-//! level of selections.
+//! The rules of typing on selections: each function tells what breaks its rule. They are not inlined, so that they take no
+//! stack at each level of selections.
 ghost use Rattle.std.specs.Prelude.{◌≡◌, true, not, ◌&&◌, OnOk};
-ghost use Rattle.fault_document_data.specs.DocumentBreaches as breach;
-ghost use Rattle.fault_document_data.specs.DocumentBreachView.{document_breach_of};
+ghost use Rattle.fault_document_errors.specs.DocumentBreaches as breach;
+ghost use Rattle.fault_document_errors.specs.DocumentBreachView.{document_breach_of};
 ghost use Rattle.tree_operations.specs.SelectionTree.{selection_tree, selection_trees};
 ghost use Rattle.tree_operations.specs.OperationWritable.{has_selection};
 ghost use Rattle.document_typing.specs.KeptSelections.{is_leaf};
@@ -11,7 +11,7 @@ ghost use Rattle.document_typing.specs.MeaningView.{meanings_under};
 ghost use Rattle.document_typing.specs.Telling.{Tells, TellsOne, is_leaf_type};
 
 use crate::look_ups::{is_leaf, is_scalar};
-use fault_document_data::BuildError;
+use fault_document_errors::BuildError;
 use graphql_names::{Name, SourceSpan};
 use graphql_schema::Schema;
 use schema_types::ExtendedType;
@@ -52,7 +52,7 @@ pub(crate) fn undefined_field(
     )
 }
 
-/// Whether a field of that inner type may select so: on a leaf there is no set (section 5.3.3).
+/// Whether a field of that inner type may have these selections: on a leaf there must be none (section 5.3.3).
 pub(crate) fn may_select(ty: Option<&ExtendedType>, selections: &[Selection]) -> bool
     ensures { result ≡ not (has_selection (selection_trees selection_tree selections.now) && is_leaf_type ty.entry) }
 {

@@ -1,5 +1,5 @@
-//! Typing of selections. What holds much is not inlined, so that a level of selections takes the stack of its kind alone.
-//! Rattle's own compiler inlines whatever has one caller, so the longest of these have two.
+//! Typing of selections. Functions with many locals are not inlined, so that a level of selections takes only the stack of
+//! its kind. Rattle's own compiler inlines whatever has one caller, so the longest of these have two.
 ghost use Rattle.std.specs.Prelude.{◌≡◌, [], Option, IfOk, OnOk};
 ghost use Rattle.graphql_names.specs.Node.{content};
 ghost use Rattle.graphql_names.specs.Placed.{Place, name_tree};
@@ -23,14 +23,15 @@ use crate::rules::{
 };
 use crate::typing::Typing;
 use document_typed_selections as typed;
-use fault_document_data::BuildError;
+use fault_document_errors::BuildError;
 use graphql_names::{Name, Node, SourceSpan};
 use schema_types::ExtendedType;
 use std::alloc::{AllocError, Global};
 use tree_operations::{Field, InlineFragment, Selection};
 use tree_type_members::FieldDefinition;
 
-/// The set on the type of that name of those selections that have a meaning under it, with it; the others are told.
+/// The set on the type of that name of those selections that have a meaning on it, each with its meaning; the others are
+/// told.
 pub(crate) fn type_set(
     typing: &Typing<'_>,
     type_name: &Name,
@@ -46,7 +47,7 @@ pub(crate) fn type_set(
     type_set_on(typing, type_name, ty, selections, faults)
 }
 
-/// The set on the type of that name, which is the one given: the type is looked up once a set.
+/// The same for a type that was looked up already: that is done once for each set.
 #[cycle(typing)]
 fn type_set_on(
     typing: &Typing<'_>,
@@ -71,7 +72,7 @@ fn type_set_on(
     })
 }
 
-/// Keeps the selection with its meaning under the type, or tells that it has none.
+/// Keeps the selection with its meaning on the type, or tells that it has none.
 #[cycle(typing)]
 #[tactic(auto, using(tree_operations::proofs::SelectionTrees::selection_tree_rules))]
 fn type_selection(
@@ -89,7 +90,7 @@ fn type_selection(
 {
     match selection {
         Selection::Field(field) => type_field(typing, parent, ty, field, out, faults),
-        // Kept whether or not its fragment is there: that is a rule on what was typed.
+        // Kept whether or not its fragment exists: that is a rule on typed documents.
         Selection::FragmentSpread(spread) => keep_spread(typing.alloc, spread, out),
         Selection::InlineFragment(inline) => type_inline(typing, parent, ty, inline, out, faults),
     }
@@ -111,12 +112,12 @@ fn type_field(
     ensures faults { OnOk result (Tells faults.old faults.new (selection_faults (meanings_for typing.now) (field_node_tree field.now) parent.now.text)) }
 {
     let tree = field.content();
-    // A leaf has a function of its own: nothing that it calls recurs.
+    // A leaf has its own function: nothing that it calls recurs.
     if tree.selection_set.is_empty() {
         return type_leaf(typing, parent, ty, field, out, faults);
     }
     match definition_of(typing.alloc, typing.schema, parent, ty, &tree.name)? {
-        // What it selects is not judged, as the type of its values is not known.
+        // Its selections are not judged, as the type of its values is not known.
         None => undefined_field(field.location(), parent, &tree.name, faults),
         Some(definition) => type_defined_field(typing, definition, field, out, faults),
     }
@@ -148,7 +149,7 @@ fn type_leaf(
     }
 }
 
-/// The set of no selections on the type.
+/// The empty set on the type.
 fn empty_set(alloc: Global, type_name: &Name) -> Result<typed::SelectionSet, AllocError>
     ensures kept { IfOk result (λ s. meant_of_set (typed_set_tree s) ≡ set_on type_name.now.text []) }
     ensures defined { IfOk result (λ s. (t : Option (SchemaTree Place)) → IsDefinedSet t (typed_set_tree s)) }
@@ -159,8 +160,8 @@ fn empty_set(alloc: Global, type_name: &Name) -> Result<typed::SelectionSet, All
     })
 }
 
-/// Lets a definition go.
-// It is not inlined, so that what lets go takes no stack at each level of selections.
+/// Drops a definition.
+// It is not inlined, so that the drop takes no stack at each level of selections.
 #[inline(never)]
 fn drop_definition(_definition: Node<FieldDefinition>) {}
 
@@ -182,7 +183,7 @@ fn type_defined_field(
     let ty = type_under(typing.schema, inner);
     let selections = &field.content().selection_set;
     if !may_select(ty, selections) {
-        // Where no field is kept the definition is let go by hand: `drop_definition` is not inlined.
+        // If no field is kept, the definition is dropped explicitly: `drop_definition` is not inlined.
         let told = subselection_on_leaf(typing.schema, field.location(), inner, faults);
         drop_definition(definition);
         return told;
@@ -196,8 +197,8 @@ fn type_defined_field(
     }
 }
 
-/// Keeps the inline fragment with its set, on the type of its condition or else on that around it, or tells that its
-/// condition is not there (section 5.5.1.2).
+/// Keeps the inline fragment with its set, on the type of its condition or else on that around it, or tells that the
+/// type of its condition does not exist (section 5.5.1.2).
 #[cycle(typing)]
 #[inline(never)]
 fn type_inline(

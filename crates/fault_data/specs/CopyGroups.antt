@@ -1,11 +1,11 @@
--- Private: leads to `diagnostic_of`. Which variants are copied alike.
+-- Private: leads to `diagnostic_of`. Which variants are copied in the same way: those with a name and no other owned data, and the rest by topic.
 use Rattle.std.specs.Prelude.{Bool, true, false, List, Option, Some, None}
 use Rattle.graphql_names.specs.NameValue.{NameValue}
 use Rattle.graphql_names.specs.Placed.{Place}
 use Rattle.fault_data.specs.declared.diagnostic_data.DiagnosticData.{DiagnosticData}
 use Rattle.fault_data.specs.declared.diagnostic_data.DiagnosticData.TheVariants as rust
 
--- the name, where it is the only text
+-- the name, if the variant owns nothing else
 abbrev pub one_name : DiagnosticData → Option NameValue
 one_name (rust.UndefinedDefinition name) = Some name
 one_name (rust.RootOperationObjectType name describe_type) = Some name
@@ -27,7 +27,7 @@ one_name (rust.UndefinedFragment name) = Some name
 one_name (rust.UnusedFragment name) = Some name
 one_name _ = None
 
--- the name of a type that lacks its members, and the places of its extensions
+-- the name of a type without fields, values, members or input fields; below, the places of its extensions
 abbrev pub set_name : DiagnosticData → Option NameValue
 set_name (rust.EmptyFieldSet type_name type_location extensions_locations) = Some type_name
 set_name (rust.EmptyValueSet type_name type_location extensions_locations) = Some type_name
@@ -42,7 +42,7 @@ set_places (rust.EmptyMemberSet type_name type_location extensions_locations) = 
 set_places (rust.EmptyInputValueSet type_name type_location extensions_locations) = Some extensions_locations.items
 set_places _ = None
 
--- a type that does not implement an interface
+-- the data are about a type that does not implement an interface as it must
 abbrev pub is_of_implementation : DiagnosticData → Bool
 is_of_implementation (rust.TransitiveImplementedInterfaces interface via_interface transitive_interface_location missing_interface) = true
 is_of_implementation (rust.MissingInterfaceField name implements_location interface field field_location) = true
@@ -52,14 +52,14 @@ is_of_implementation (rust.InvalidImplementationFieldArgumentType name interface
 is_of_implementation (rust.ExtraRequiredImplementationFieldArgument name interface field argument argument_location interface_field_location) = true
 is_of_implementation _ = false
 
--- a definition that leads back to itself
+-- the data are about a definition that leads back to itself
 abbrev pub is_of_cycle : DiagnosticData → Bool
 is_of_cycle (rust.RecursiveInputObjectDefinition name trace) = true
 is_of_cycle (rust.RecursiveDirectiveDefinition name trace) = true
 is_of_cycle (rust.RecursiveFragmentDefinition head_location name trace) = true
 is_of_cycle _ = false
 
--- a use of a directive or an argument
+-- the data are about a use of a directive or an argument
 abbrev pub is_of_use : DiagnosticData → Bool
 is_of_use (rust.UnsupportedLocation name location valid_locations definition_location) = true
 is_of_use (rust.UndefinedArgument name coordinate definition_location) = true
@@ -67,7 +67,7 @@ is_of_use (rust.RequiredArgument name coordinate expected_type definition_locati
 is_of_use (rust.DisallowedVariableUsage variable variable_type variable_location argument argument_type argument_location) = true
 is_of_use _ = false
 
--- a value
+-- the data are about a value
 abbrev pub is_of_value : DiagnosticData → Bool
 is_of_value (rust.UnsupportedValueType value ty definition_location) = true
 is_of_value (rust.IntCoercionError value) = true
@@ -77,7 +77,7 @@ is_of_value (rust.UndefinedInputValue value definition definition_location) = tr
 is_of_value (rust.RequiredField name coordinate expected_type definition_location) = true
 is_of_value _ = false
 
--- a part of a document
+-- the data are about a part of a document
 abbrev pub is_of_document : DiagnosticData → Bool
 is_of_document (rust.VariableInputType name ty describe_type) = true
 is_of_document (rust.MissingSubselection coordinate output_type describe_type) = true

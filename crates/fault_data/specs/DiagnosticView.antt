@@ -31,7 +31,7 @@ plain_input v = unplaced_input_value (input_value_tree v)
 abbrev pub plain_spread : FragmentSpread → SpreadTree
 plain_spread s = record { fragment_name = s.fragment_name.text; directives = unplaced_directives (directives_tree s.directives) }
 
--- the referring nodes, each with its place
+-- the nodes of a trace, each with its place
 abbrev pub trace_of : {A B : Type 0} → (A → B) → Vec (Node A) Global → List (Placed Place B)
 trace_of f trace = map (node_tree f) trace.items
 

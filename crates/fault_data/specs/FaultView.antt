@@ -1,4 +1,4 @@
--- What contracts see of faults: what breaks a rule with plain data, and where.
+-- What contracts see of faults: the broken rule with plain data, and where.
 use Rattle.std.specs.Prelude.{List, map, Vec}
 use Rattle.std.specs.declared.alloc.Global.{Global}
 use Rattle.graphql_names.specs.Placed.{Place}

@@ -1,4 +1,4 @@
--- The text of what breaks a rule: its template, filled with what it tells.
+-- The message of a broken rule: its template, filled with its data.
 use Rattle.std.specs.Prelude.{ℕ, List, ◌++◌, codes, Option, None, Some}
 use Rattle.tree_literals.specs.ValueLayout.{type_text}
 use Rattle.tree_literals.specs.ValueQueries.{value_description}
@@ -10,7 +10,7 @@ use Rattle.rule_definitions.specs.Diagnostics.{Diagnostic, QueryRootOperationTyp
 abbrev pub dotted : List ℕ → List ℕ → List ℕ
 dotted type field = type ++ (codes "." ++ field)
 
--- a fragment by its name, or without one
+-- a fragment with its name, or an inline fragment
 abbrev pub fragment_words : Option (List ℕ) → List ℕ
 fragment_words None = codes "inline fragment"
 fragment_words (Some name) = codes "fragment `" ++ (name ++ codes "`")

@@ -87,7 +87,7 @@ impl DiagnosticData {
     }
 }
 
-/// The same data with a copy of its name, which is the only text that it has.
+/// The same data with a copy of its name, which is all that it owns.
 fn with_name(diagnostic: &DiagnosticData, name: Name) -> DiagnosticData
     requires { one_name diagnostic.now ≡ Some name }
     ensures { diagnostic_of result ≡ diagnostic_of diagnostic.now }

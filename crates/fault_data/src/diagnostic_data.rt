@@ -395,7 +395,7 @@ pub enum DiagnosticData {
 
 impl Drop for DiagnosticData {
     fn drop(self) {
-        // variants that own the same let go of it in one arm
+        // variants that own the same things drop them in one arm
         match self {
             DiagnosticData::UndefinedDefinition { name: _name }
             | DiagnosticData::RootOperationObjectType {

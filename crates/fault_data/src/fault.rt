@@ -48,7 +48,7 @@ impl Fault {
 }
 
 /// Whether there are as many faults as a call tells.
-// The list and no slice of it: contracts see the faults of a list.
+// A `&Vec` and no slice: contracts see the faults of a list.
 pub fn is_full(faults: &Vec<Fault>) -> bool
     ensures { IsTrue result ↔ (most_told ≤ length (faults_of faults.now)) }
 {

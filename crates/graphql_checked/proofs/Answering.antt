@@ -1,7 +1,7 @@
 -- The bytes that go with an accepted pair and with refusals.
 use Rattle.std.proofs.Common.{◌≡◌, ℕ, List, Result, Ok, Err, inl, refl, sym, ap, subst}
 use Rattle.graphql_names.specs.Placed.{Place}
-use Rattle.document_meaning.specs.MeantTree.{MeantDocument}
+use Rattle.spec_document.specs.MeantTree.{MeantDocument}
 use Rattle.graphql_faults.specs.DetailsView.{diagnostics_of}
 use Rattle.book_validity.specs.in_verdict_definitions.Texts.{SourceText, Terms}
 use Rattle.book_validity.specs.in_verdict_definitions.Out.{Layout, layout_text}

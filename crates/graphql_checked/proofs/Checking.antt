@@ -2,16 +2,16 @@
 use Rattle.std.proofs.Common.{inl, inr, ◌≡◌, ◌≢◌, ℕ, List, [], ◌∷◌, Contains, refl, ap, subst, ◌∙◌, sym}
 use Rattle.graphql_names.specs.Placed.{Place}
 use Rattle.schema_types.specs.SchemaTree.{SchemaTree}
-use Rattle.document_meaning.specs.MeantTree.{MeantDocument}
+use Rattle.spec_document.specs.MeantTree.{MeantDocument}
 use Rattle.document_typed_operations.specs.TypedDocument.{TypedDocumentTree}
 use Rattle.document_typed_operations.specs.ToAst.{ast_document}
 use Rattle.book_validity.specs.in_typing.DocumentView.{meant_document}
 use Rattle.book_validity.proofs.in_typing.WrittenMeant.{document-written}
 use Rattle.rule_definitions.proofs.Lists.{not_in_nil, only}
-use Rattle.document_meaning.specs.Unplaced.{unplaced_document}
+use Rattle.spec_document.specs.Unplaced.{unplaced_document}
 use Rattle.rule_definitions.specs.Judged.{judged}
 use Rattle.rule_document_definitions.specs.DocumentFaults.{OfData, OfDocument, OfLimit}
-use Rattle.rule_document_definitions.specs.Told.{PlacedDocumentFault, places_in, IsValidDocument}
+use Rattle.rule_document_definitions.specs.PlacedDocumentFaults.{PlacedDocumentFault, places_in, IsValidDocument}
 use Rattle.rule_document_definitions.specs.Verdict.{WithinBounds}
 use Rattle.graphql_validation.specs.LastingRules.{LastingFails}
 use Rattle.graphql_validation.proofs.Reasons.{lasting_is_fault, cycle_is_fault}

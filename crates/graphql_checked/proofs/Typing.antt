@@ -7,8 +7,8 @@ use Rattle.std.specs.List.{filter}
 use Rattle.graphql_names.specs.Placed.{Place}
 use Rattle.schema_types.specs.SchemaTree.{SchemaTree}
 use Rattle.schema_types.specs.Plain.{plain}
-use Rattle.document_meaning.specs.MeantTree.{MeantDocument}
-use Rattle.document_meaning.specs.Unplaced.{unplaced_document}
+use Rattle.spec_document.specs.MeantTree.{MeantDocument}
+use Rattle.spec_document.specs.Unplaced.{unplaced_document}
 use Rattle.book_validity.specs.in_typing.Meanings.{meanings}
 use Rattle.book_validity.specs.in_verdict_definitions.Meaning.{document_over}
 use Rattle.book_validity.specs.in_typing.KeptDocument.{kept_document}
@@ -18,7 +18,7 @@ use Rattle.book_validity.specs.in_typing.TypingFaults.{TypingFails}
 use Rattle.book_validity.specs.in_typing.OutDoc.{written_document, out_doc}
 use Rattle.book_validity.specs.in_typing.BuilderView.{DocumentBuilder}
 use Rattle.rule_definitions.proofs.Lists.{Contains-first}
-use Rattle.rule_document_definitions.specs.Told.{PlacedDocumentFault, IsValidDocument}
+use Rattle.rule_document_definitions.specs.PlacedDocumentFaults.{PlacedDocumentFault, IsValidDocument}
 use Rattle.rule_document_definitions.specs.Verdict.{WithinBounds}
 use Rattle.rule_document_definitions.proofs.Unplaced.{contains_map, contains_unmap}
 use Rattle.graphql_validation.specs.LastingRules.{LastingFails, LastingOrCycleFails}

@@ -11,12 +11,12 @@ use Rattle.graphql_checked.specs.declared.checker.Limits.{Limits}
 
 module _ {R D W : Type 0} (of_schema : R → Option (List ℕ)) (of_document : D → Option (List ℕ)) (contents : W → Option (List ℕ))
     (layout : Layout) (limits : Limits) where
-  -- The outcome is answered: all bytes are out that go with it.
+  -- The outcome is answered: all its bytes are written.
   abbrev pub IsAnswered : List (Device R) → Device D → Device W → Device W → Outcome → Type 0
   IsAnswered schemas document out out' =
       WritesAnswer of_schema of_document contents (prefix_of layout) (first_terms limits.nesting) schemas document out out'
 
-  -- The fault arises, where it is due: `schemas`, `document` and `out` are as before, the others as after.
+  -- The fault is due: `schemas`, `document` and `out` are as before the call, the others as after it.
   abbrev pub Arises : List (Device R) → List (Device R) → Device D → Device D → Device W → Device W → RunFault → Type 0
   Arises schemas schemas' document document' out out' =
       RunFaultIsDue of_schema of_document contents (prefix_of layout) (first_terms limits.nesting) schemas schemas' document document' out out'

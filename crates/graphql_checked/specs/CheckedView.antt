@@ -1,4 +1,4 @@
--- What contracts see of a checked schema and of a checked document: what they hold, and what that is.
+-- What contracts see of a checked schema and of a checked document: their parts, and these as plain values.
 use Rattle.std.specs.Prelude.{ℕ}
 use Rattle.tree_definitions.specs.DefinitionTree.{document_tree}
 use Rattle.tree_definitions.specs.declared.document.Document.{Document}
@@ -12,7 +12,7 @@ use Rattle.book_validity.specs.in_verdict_definitions.Texts.{SourceText}
 use Rattle.checker_schemas.specs.CheckedSchemaValue.{CheckedSchemaValue}
 use Rattle.graphql_checked.specs.CheckerValue.{CheckedDocumentValue}
 
--- how many brackets may be open at once, the number of a document, the schema at hand and what is written
+-- how many brackets may be open at once, the number of a document, the schema for documents, and what is written
 pub record CheckedSchemaParts : Type 0 where
   pub nesting : ℕ
   pub number : ℕ

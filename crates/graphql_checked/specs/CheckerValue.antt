@@ -2,7 +2,7 @@
 use Rattle.std.specs.Prelude.{◌≡◌, ℕ, Bool, List}
 use Rattle.graphql_names.specs.Placed.{Place}
 use Rattle.book_validity.specs.in_typing.OutDoc.{written_document}
-use Rattle.document_meaning.specs.MeantTree.{MeantDocument}
+use Rattle.spec_document.specs.MeantTree.{MeantDocument}
 use Rattle.book_validity.specs.in_verdict_definitions.Texts.{SourceText, Terms}
 use Rattle.book_validity.specs.in_verdict_definitions.Meaning.{document_over}
 use Rattle.book_validity.specs.in_verdict_definitions.Judge.{IsDocumentAccepted}
@@ -16,7 +16,7 @@ pub record CheckerValue : Type 0 where
   pub texts : List SourceText
   pub failed : Bool
 
--- a checked document: its schema, its text, what it means over the schema, and what is written of it
+-- a checked document: its schema, its text, and what it means over the schema
 pub record CheckedDocumentValue : Type 0 where
   pub schema : CheckedSchemaValue
   pub text : SourceText

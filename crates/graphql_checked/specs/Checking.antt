@@ -2,7 +2,7 @@
 use Rattle.std.specs.Prelude.{◌≡◌, ◌≢◌, ◌↔◌, ℕ, List, [], ◌∷◌, Contains, Some}
 use Rattle.graphql_names.specs.Placed.{Place}
 use Rattle.schema_types.specs.SchemaTree.{SchemaTree}
-use Rattle.document_meaning.specs.MeantTree.{MeantDocument}
+use Rattle.spec_document.specs.MeantTree.{MeantDocument}
 use Rattle.book_validity.specs.in_typing.TypingFaults as typing
 use Rattle.book_validity.specs.in_typing.OutDoc.{written_document, out_doc}
 use Rattle.book_validity.specs.in_typing.DefinedByPlace.{IsDefinedDocument}
@@ -10,10 +10,10 @@ use Rattle.book_validity.specs.in_typing.DocumentView.{document_meant}
 use Rattle.document_typed_operations.specs.TypedDocument.{typed_document_tree}
 use Rattle.document_typed_operations.specs.declared.document.ExecutableDocument.{ExecutableDocument}
 use Rattle.schema_building.specs.SourcesView.{sources_view}
-use Rattle.rule_document_definitions.specs.Told.{PlacedDocumentFault, IsValidDocument}
+use Rattle.rule_document_definitions.specs.PlacedDocumentFaults.{PlacedDocumentFault, IsValidDocument}
 use Rattle.rule_document_definitions.specs.Verdict.{WithinBounds}
 use Rattle.graphql_validation.specs.LastingRules.{LastingFails}
-use Rattle.document_meaning.specs.Unplaced.{unplaced_document}
+use Rattle.spec_document.specs.Unplaced.{unplaced_document}
 use Rattle.graphql_faults.specs.DetailsTree.{of_typing, of_document}
 use Rattle.graphql_faults.specs.DetailsView.{diagnostics_of}
 use Rattle.graphql_validation.specs.TellsDocument.{IsTypedUnder, FailsBesides, SomeFails}
@@ -28,13 +28,13 @@ use Rattle.graphql_checked.specs.DocumentRefusals.{TypingOrLastingFails, TellsLa
 use Rattle.checker_calls.specs.declared.refusal.Refusal.{Refusal}
 use Rattle.checker_calls.specs.declared.refusal.Refusal.TheVariants.{Faults, Memory, Failed}
 
--- ---- reading a document with the number that it has behind the schema texts, if one is left for it
+-- ---- reading a document with the number that comes after those of the schema texts, if one is left for it
 
 -- the document is read, and passes no bound
 abbrev pub IsReadDocument : CheckedSchemaValue → SourceText → Tree → Type 0
 IsReadDocument schema text tree = ReadsText schema.number text tree × IsWithin schema.nesting schema.number text
 
--- the document is not read
+-- the document is not read, or memory ran out
 abbrev pub IsUnreadDocument : CheckedSchemaValue → SourceText → Refusal → Type 0
 IsUnreadDocument schema text (Faults list) = UnreadAlone schema.nesting schema.number text (diagnostics_of list)
 IsUnreadDocument schema text Memory = Unit {0}
@@ -50,8 +50,8 @@ pub record TypesDocument (schema : SchemaTree Place) (tree : Tree) (document : M
   pub right : (fault : AnyFault) → Contains faults fault → (f : typing.TypingFault Place) × ((fault ≡ of_typing f) × TypingFailsOver schema tree f)
   pub full : (f : typing.TypingFault Place) → TypingFailsOver schema tree f → Contains faults (of_typing f)
 
--- a rule of typing is broken, and all that breaks those rules is told, and of the breaches of rules on documents that are found, at
--- most 1,000, those that stay broken
+-- a rule of typing is broken; each breach of those rules is told, and of the breaches of rules on documents that are found, at most 1,000, each
+-- that is lasting (`LastingFails`)
 pub record RefusesTyping (schema : SchemaTree Place) (tree : Tree) (faults : List AnyFault) : Type 0 where
   pub broken : (f : typing.TypingFault Place) × TypingFailsOver schema tree f
   pub some : faults ≢ []
@@ -66,8 +66,8 @@ RefusalOfTyping schema tree Failed = ⊥
 
 -- ---- judging it
 
--- rules on documents or on merging are broken so, or bounds are passed, and each breach is told but of some rules, unless as many are
--- told as one call tells; a document that is valid is refused by bounds alone
+-- rules on documents or on merging are broken, or bounds are passed; each breach is told, except those of some rules, unless as many are told as
+-- one call tells; a document that is valid is refused only for a bound
 pub record RefusesRules (schema : SchemaTree Place) (document : MeantDocument Place) (faults : List AnyFault) : Type 0 where
   pub some : faults ≢ []
   pub right : (fault : AnyFault) → Contains faults fault → (f : PlacedDocumentFault) × ((fault ≡ of_document f) × SomeFails schema document f)

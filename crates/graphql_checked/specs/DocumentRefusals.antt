@@ -1,10 +1,10 @@
--- What the refusals of a document say of it.
+-- What the refusals of a document say.
 use Rattle.std.specs.Prelude.{◌≡◌, ◌⊎◌, ℕ, List, Contains}
 use Rattle.graphql_names.specs.Placed.{Place}
 use Rattle.schema_types.specs.SchemaTree.{SchemaTree}
-use Rattle.document_meaning.specs.MeantTree.{MeantDocument}
+use Rattle.spec_document.specs.MeantTree.{MeantDocument}
 use Rattle.book_validity.specs.in_typing.TypingFaults as typing
-use Rattle.rule_document_definitions.specs.Told.{PlacedDocumentFault}
+use Rattle.rule_document_definitions.specs.PlacedDocumentFaults.{PlacedDocumentFault}
 use Rattle.graphql_validation.specs.in_fragments.UnlessFull.{TellsUnlessFull, HasAll}
 use Rattle.graphql_validation.specs.LastingRules.{LastingFails, LastingOrCycleFails}
 use Rattle.graphql_validation.specs.TellsDocument.{SomeFails}
@@ -18,30 +18,31 @@ use Rattle.checker_schemas.specs.CheckedSchemaValue.{CheckedSchemaValue}
 use Rattle.checker_calls.specs.declared.refusal.Refusal.{Refusal}
 use Rattle.checker_calls.specs.declared.refusal.Refusal.TheVariants.{Faults, Memory, Failed}
 
--- The document is not accepted over the checked schema, and why.
+-- The refusal says why the document is not accepted over the checked schema, or that memory ran out.
 abbrev pub RefusalOfDocument : CheckedSchemaValue → SourceText → Refusal → Type 0
 RefusalOfDocument schema document (Faults list) = RefusesDocument schema.schema schema.nesting schema.number document (diagnostics_of list)
 RefusalOfDocument schema document Memory = Unit {0}
 RefusalOfDocument schema document Failed = ⊥
 
--- ---- what is told beside the faults of typing
+-- ---- what is told along with the faults of typing
 
--- a rule of typing is broken so; or one on documents that stays broken whatever is added to what is kept of the document
+-- the fault is a breach of a rule of typing; or a lasting breach of a rule on documents, which remains whatever is added to what is kept of the
+-- document; or a fragment reaches itself
 abbrev pub TypingOrLastingFails : SchemaTree Place → Tree → AnyFault → Type 0
 TypingOrLastingFails schema tree fault =
     ((f : typing.TypingFault Place) × ((fault ≡ of_typing f) × TypingFailsOver schema tree f))
     ⊎ ((f : PlacedDocumentFault) × ((fault ≡ of_document f) × LastingOrCycleFails schema (document_over schema tree) f))
 
--- Breaches of rules on documents are found, at most 1,000, and unless they are as many, each that stays broken is among them; those of
--- them that stay broken are told.
+-- Breaches of rules on documents are found, at most 1,000, and each lasting one is among them unless they are as many; the lasting ones among them
+-- are told.
 pub record TellsLastingOfFound (schema : SchemaTree Place) (document : MeantDocument Place) (faults : List AnyFault) : Type 0 where
   pub found : List PlacedDocumentFault
   pub breaks : TellsUnlessFull (SomeFails schema document) (HasAll (LastingFails schema document)) found
   pub told : (fault : PlacedDocumentFault) → LastingFails schema document fault → Contains found fault → Contains faults (of_document fault)
 
--- Of a document that is read each breach of a rule that stays broken is told, unless as many are told as one call tells. Where a
--- rule of typing is broken, those among the breaches that are found are told (`first`), and nothing else is told of rules on
--- documents, but that fragments reach themselves: nothing of which what typing left out may be the cause.
+-- Of a document that is read and breaks no rule of typing, each lasting breach is told, unless as many are told as one call tells. If a rule of
+-- typing is broken, the lasting breaches that are found are told (`first`), and no others of rules on documents, except fragments that reach
+-- themselves (`only`): none that may be caused by what typing left out.
 pub record TellsLastingFaults (schema : SchemaTree Place) (nesting number : ℕ) (document : SourceText) (faults : List AnyFault) : Type 0 where
   pub full : IsWithin nesting number document → (tree : Tree) → ReadsText number document tree
       → ((f : typing.TypingFault Place) → TypingFailsOver schema tree f → ⊥)

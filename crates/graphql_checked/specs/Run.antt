@@ -32,7 +32,7 @@ module _ {R D : Type 0} (of_schema : R → Option (List ℕ)) (of_document : D �
     pub document_tells : TellsText of_document document text
     pub certain : IsCertain terms texts text
 
--- what may be answered of such a pair: that it is accepted, that memory ran out, or that a device has failed
+-- what may be answered for such a pair: that it is accepted, that memory ran out, or that a device has failed
 abbrev pub IsAnswerToCertain : Result Outcome RunFault → Type 0
 IsAnswerToCertain (Ok Accepted) = Unit {0}
 IsAnswerToCertain (Ok Refused) = ⊥
@@ -41,7 +41,7 @@ IsAnswerToCertain (Err (Reader number)) = Unit {0}
 IsAnswerToCertain (Err (Writer count)) = Unit {0}
 IsAnswerToCertain (Err (NotUtf8 number)) = ⊥
 
--- Each reader is at its end, that of the document too, also where the schema texts are refused.
+-- Each reader is at its end, and so is that of the document, even if the schema texts are refused.
 abbrev pub AreAllRead : {R D : Type 0} → (R → Option (List ℕ)) → (D → Option (List ℕ)) → List (Device R) → Device D → Type 0
 AreAllRead of_schema of_document schemas document = AreReadToEnd of_schema schemas × IsReadToEnd of_document document
 
@@ -59,11 +59,11 @@ module _ {R D W : Type 0} (of_schema : R → Option (List ℕ)) (of_document : D
     pub answers : of texts text bytes
     pub put : Appends (contents (device_inner old)) (contents (device_inner new)) (front bytes)
 
-  -- All bytes are out that go with the outcome.
+  -- All bytes of the outcome are written.
   abbrev pub WritesAnswer : List (Device R) → Device D → Device W → Device W → Outcome → Type 0
   WritesAnswer schemas document out out' outcome = WritesOfTexts (BytesOf terms layout outcome) schemas document out out' (λ bytes. bytes)
 
-  -- When each fault comes; `schemas`, `document` and `out` are as before, the others as after.
+  -- When each fault is answered; `schemas`, `document` and `out` are as before the run, the others as after it.
   abbrev pub RunFaultIsDue : List (Device R) → List (Device R) → Device D → Device D → Device W → Device W → RunFault → Type 0
   RunFaultIsDue schemas schemas' document document' out out' Memory = out' ≡ out
   RunFaultIsDue schemas schemas' document document' out out' (Reader number) =
@@ -86,7 +86,7 @@ AcceptsOrFails (Ok (Accepted, parts)) = Unit {0}
 AcceptsOrFails (Ok (Refused, parts)) = ⊥
 AcceptsOrFails (Err fault) = Unit {0}
 
--- These bytes go with the document of this text, which is accepted over the schema.
+-- The bytes of the answer `accepted`, for this schema and the document of this text.
 pub record IsWrittenAnswer (layout : Layout) (schema : CheckedSchemaValue) (text : SourceText) (bytes : List ℕ) : Type 0 where
   pub written_document : List ℕ
   pub writes_document : WritesDocument layout schema.number text written_document

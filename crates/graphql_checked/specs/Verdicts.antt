@@ -11,7 +11,8 @@ use Rattle.checker_calls.specs.declared.verdict.Verdict.TheVariants.{Accepted, R
 abbrev pub first_terms : ℕ → Terms
 first_terms nesting = record { nesting = nesting; first_text = 1; first_extension = 1 }
 
--- The verdict is right: accepted says yes, and each fault of a refusal is so.
+-- The verdict is right: if it is `Accepted`, the book says yes; if it is `Refused`, the pair is refused with
+-- these faults.
 abbrev pub IsVerdict : Terms → List SourceText → SourceText → Verdict → Type 0
 IsVerdict terms schemas document Accepted = IsYes terms schemas document
 IsVerdict terms schemas document (Refused list) = Refuses terms schemas document (diagnostics_of list)

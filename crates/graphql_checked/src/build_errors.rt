@@ -5,7 +5,7 @@ ghost use Rattle.book_validity.specs.in_typing.FaultView.{faults_of};
 ghost use Rattle.graphql_faults.specs.DetailsTree.{of_typing};
 ghost use Rattle.graphql_faults.specs.DetailsView.{diagnostics_of};
 
-use fault_document_data::BuildError;
+use fault_document_errors::BuildError;
 use graphql_faults::DiagnosticList;
 use graphql_names::SourceSpan;
 use std::alloc::{AllocError, Global};

@@ -17,7 +17,8 @@ use document_typed_operations::ExecutableDocument;
 use std::alloc::AllocError;
 use std::marker::Model;
 
-/// A document that is accepted over a schema: it is read, every rule holds of it, and no bound of brackets or numbers is passed.
+/// A document that is accepted over a schema: it is read, every rule holds of it, and no bound on brackets or numbers is
+/// passed.
 pub struct CheckedDocument<'s> {
     pub(crate) schema: &'s CheckedSchema,
     pub(crate) text: String,

@@ -16,7 +16,7 @@ ghost use Rattle.checker_calls.specs.TextSources.{text_sources};
 ghost use Rattle.graphql_checked.specs.CheckedView.{schema_value, document_value};
 ghost use Rattle.checker_schemas.specs.CheckedSchemaValue.{IsOfAcceptedTexts};
 ghost use Rattle.graphql_checked.specs.CheckerValue.{IsCheckedDocumentOf};
-ghost use Rattle.rule_document_definitions.specs.Told.{IsValidDocument};
+ghost use Rattle.rule_document_definitions.specs.PlacedDocumentFaults.{IsValidDocument};
 ghost use Rattle.graphql_validation.specs.TellsDocument.{IsTypedUnder};
 ghost use Rattle.graphql_checked.specs.DocumentRefusals.{RefusalOfDocument, RefusalWithLasting};
 ghost use Rattle.graphql_checked.specs.Checking.{IsReadDocument, IsUnreadDocument, TypesDocument, RefusalOfTyping, RefusalOfRules};
@@ -36,19 +36,20 @@ use std::alloc::{AllocError, Global};
 use std::marker::Model;
 use tree_definitions::Document;
 
-/// A schema of texts that are accepted: they are read, every rule holds of them, and no bound of brackets or numbers is passed.
+/// A schema of texts that are accepted: they are read, every rule holds of them, and no bound on brackets or numbers is
+/// passed.
 pub struct CheckedSchema {
     pub(crate) alloc: Global,
     pub(crate) nesting: usize,
-    /// The number of a document that comes after the texts; `u64::MAX`, which no text gets, where none is left for it.
+    /// The number of a document that comes after the texts; `u64::MAX`, which no text gets, if none is left for it.
     pub(crate) number: u64,
     /// The schema as it is written: as it was built, before built-in scalars to which nothing refers were dropped. It shares
     /// its nodes with the schema.
     pub(crate) written: Document,
     /// The schema over which documents are judged.
     pub(crate) schema: Schema,
-    /// Its possible types, which are found once and serve each document.
-    pub(crate) possible: PossibleTypes,
+    /// Its possible types, which are found once and serve each document; None if one document alone comes: it may need none.
+    pub(crate) possible: Option<PossibleTypes>,
     /// What it defines of many input values, which is found once as well.
     pub(crate) inputs: SchemaInputs,
 }
@@ -74,7 +75,7 @@ impl Model for CheckedSchema {
     ghost use Rattle.tree_definitions.specs.contracts.document.Document as of_document;
     ghost use Rattle.book_validity.specs.in_schema.SchemaOf.{schema_tree};
     ghost use Rattle.rule_definitions.specs.Judged.{judged};
-    ghost use Rattle.graphql_validation.specs.in_fragments.Possible.{ArePossible};
+    ghost use Rattle.graphql_validation.specs.in_fragments.Possible.{ArePossibleIfFound};
     ghost use Rattle.graphql_validation.specs.in_values.in_inputs.Inputs.{AreInputsOf};
     ghost use Rattle.graphql_checked.specs.CheckedView.{CheckedSchemaParts, schema_value};
     ghost use Rattle.checker_schemas.specs.CheckedSchemaValue.{IsOfAcceptedTexts};
@@ -85,7 +86,7 @@ impl Model for CheckedSchema {
 
     ghost view = { λ s. record { nesting = s.nesting; number = s.number; schema = s.schema; written = s.written } };
 
-    ghost invariant = { λ s. IsOfAcceptedTexts (schema_value (record { nesting = s.nesting; number = s.number; schema = s.schema; written = s.written })) × (ArePossible (judged (schema_tree s.schema)) s.possible × AreInputsOf (schema_tree s.schema) s.inputs) };
+    ghost invariant = { λ s. IsOfAcceptedTexts (schema_value (record { nesting = s.nesting; number = s.number; schema = s.schema; written = s.written })) × (ArePossibleIfFound (judged (schema_tree s.schema)) s.possible × AreInputsOf (schema_tree s.schema) s.inputs) };
 }
 
 impl CheckedSchema {
@@ -102,10 +103,11 @@ impl CheckedSchema {
     /// The document, if it is accepted over the schema: it is read, every rule holds of it, and no bound is
     /// passed. Its number is the one after those of the schema texts. The schema stays as it is.
     ///
-    /// Otherwise it tells what is wrong: a fault, alone, where the text is not read; else each rule of typing that is broken,
-    /// and of what typing keeps what breaks the rules on documents that stay broken whatever is added; where none of typing is
-    /// broken, the rules on documents that are; and where none is, the fields that do not merge. Of what breaks other rules than
-    /// those of typing it tells all, or 1,000. It never answers [`Refusal::Failed`].
+    /// Otherwise it tells what is wrong. If the text is not read, that is the only fault. Else it tells each rule of typing
+    /// that is broken, and with these the breaches of rules on documents, in what typing keeps, that remain whatever is
+    /// added. If no rule of typing is broken, it tells the breaches of rules on documents; if there are none, the fields
+    /// that do not merge. Of breaches of rules other than typing it tells all, or 1,000. It never answers
+    /// [`Refusal::Failed`].
     pub fn check(&self, text: &str) -> Result<CheckedDocument<'_>, Refusal>
         ensures schema { IfOk result (λ d. d.schema ≡ self.now) }
         ensures text { IfOk result (λ d. d.text ≡ text.now) }
@@ -173,8 +175,8 @@ fn build(
     }
 }
 
-/// What is kept of the definitions over the schema, where no rule of typing is broken. Where one is, what breaks rules that
-/// stay broken whatever is added to what is kept is told, too.
+/// What is kept of the definitions over the schema, if no rule of typing is broken. If one is, breaches of rules on
+/// documents that remain whatever is added to what is kept are told, too.
 fn typed(schema: &CheckedSchema, tree: &Document) -> Result<ExecutableDocument, Refusal>
     ensures typed { IfOk result (λ d. TypesDocument (schema_value schema.now).schema (document_tree tree.now) (meant_document (typed_document_tree d)) []) }
     ensures sources { IfOk result (λ d. sources_view d.sources ≡ with_sources [] (sources_of tree.now)) }
@@ -183,7 +185,7 @@ fn typed(schema: &CheckedSchema, tree: &Document) -> Result<ExecutableDocument, 
 {
     let (document, mut faults) = build(schema, tree)?;
     if !faults.is_empty() {
-        let possible = Some(&schema.possible);
+        let possible = schema.possible.as_ref();
         let over = IndexedSchema::new(&schema.schema, &schema.inputs);
         tell_lasting_faults(schema.alloc, &mut faults, &over, possible, &document)?;
         return Err(Refusal::Faults(faults));
@@ -198,7 +200,7 @@ fn validate(schema: &CheckedSchema, document: &ExecutableDocument) -> Result<(),
 {
     let alloc = schema.alloc;
     let mut faults = DiagnosticList::new(alloc);
-    let possible = Some(&schema.possible);
+    let possible = schema.possible.as_ref();
     let over = IndexedSchema::new(&schema.schema, &schema.inputs);
     validate_with_possible_types(alloc, &mut faults, &over, possible, document)?;
     if !faults.is_empty() {

@@ -16,20 +16,22 @@ use schema_components::Extensions;
 use std::alloc::Global;
 use std::marker::Model;
 
-/// How far texts may go.
+/// Limits on texts.
 #[derive(Clone, Copy, Debug, PartialEq, Eq)]
 pub struct Limits {
     /// How many brackets may be open at once.
     pub nesting: usize,
 }
 
-/// Takes schema texts one by one, and gives the schema of them all where every rule holds of it.
+/// Takes schema texts one by one, and gives the schema of them all if every rule holds of it.
 ///
 /// Texts are numbered in the order in which they are added, from 1 if not said otherwise.
 #[derive(Drop)]
 pub struct Checker {
     texts: SchemaTexts,
     failed: bool,
+    /// Whether the schema is for one document: then nothing is found for more.
+    pub(crate) is_for_one: bool,
 }
 
 impl Model for Checker {
@@ -64,13 +66,14 @@ impl Checker {
         Checker {
             texts: SchemaTexts::new(alloc, limits.nesting, files, extensions),
             failed: false,
+            is_for_one: false,
         }
     }
 
     /// Adds a schema text after the others.
     ///
-    /// Where memory runs out it answers [`Refusal::Memory`], and from then on [`Refusal::Failed`]. It gives
-    /// no other refusal: what is wrong with the text is told by [`Checker::finish`].
+    /// If memory runs out it answers [`Refusal::Memory`], and from then on [`Refusal::Failed`]. It gives no other refusal:
+    /// what is wrong with the text is told by [`Checker::finish`].
     pub fn add_schema(&mut self, text: &str) -> Result<(), Refusal>
         ensures running { OnOk result (self.old.failed ≡ false) }
         ensures added { OnOk result (self.new ≡ record self.old { texts = self.old.texts ++ text.now ∷ [] }) }
@@ -82,7 +85,7 @@ impl Checker {
         match self.texts.add(text) {
             Ok(()) => Ok(()),
             Err(_) => {
-                // What was read may no longer be that of the texts, so the checker goes no further.
+                // What was read may no longer be that of the texts, so the checker stops here.
                 self.failed = true;
                 Err(Refusal::Memory)
             }
@@ -92,8 +95,8 @@ impl Checker {
     /// The schema of the texts, if they are accepted: they are read, every rule holds of them, and no bound
     /// is passed.
     ///
-    /// Otherwise it tells what is wrong: a fault for each text that is not read, alone; else each folding rule that is broken;
-    /// where none is, the first 1,000 breaches of rules on schemas.
+    /// Otherwise it tells what is wrong: if texts are not read, only a fault for each of them; else each folding rule that
+    /// is broken; if none is, the first 1,000 breaches of rules on schemas.
     pub fn finish(self) -> Result<CheckedSchema, Refusal>
         ensures schema { IfOk result (λ s. IsCheckedSchemaOf self.terms self.texts (schema_value s)) }
         ensures running { OnOk result (self.failed ≡ false) }
@@ -105,9 +108,14 @@ impl Checker {
             return Err(Refusal::Failed);
         }
         let alloc = self.texts.alloc;
+        let is_for_one = self.is_for_one;
         match schema_of_texts(self.texts) {
             Ok(judged) => {
-                let possible = PossibleTypes::new(alloc, &judged.schema)?;
+                let possible = if is_for_one {
+                    None
+                } else {
+                    Some(PossibleTypes::new(alloc, &judged.schema)?)
+                };
                 let (types, directives) = (
                     &judged.schema.types,
                     &judged.schema.directive_definitions,

@@ -4,8 +4,8 @@
 //! For the layer above: a yes is right, each fault is right, and what is written is the layout's bytes. The definitions
 //! are those of `verdict_definitions` (`Judge`, `Says`, `Answer`, `Out`); contracts of the calls say which of them
 //! holds (`specs/Verdicts.antt`, `specs/Run.antt`, `specs/CheckerAnswers.antt`). A checked schema is that of accepted
-//! texts (`IsCheckedSchemaOf`), and has the possible types of its schema (`ArePossible`); a checked document is accepted
-//! over its schema (`IsCheckedDocumentOf`): each keeps this as its invariant.
+//! texts (`IsCheckedSchemaOf`), and the possible types that it has are those of its schema (`ArePossibleIfFound`); a
+//! checked document is accepted over its schema (`IsCheckedDocumentOf`): each keeps this as its invariant.
 //!
 //! A [`Checker`] takes schema texts and gives a [`CheckedSchema`], which checks documents. [`check_texts`] is the two in
 //! one call, and [`run`] the same over readers and a writer. Begin with `checker.rt`, `checked_schema.rt` and

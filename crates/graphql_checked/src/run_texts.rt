@@ -1,7 +1,6 @@
-//! Reads texts, judges them, and puts the answer out.
+//! Reads texts, judges them, and writes the answer.
 
 ghost use Rattle.std.specs.Prelude.{◌≡◌, false, OnOk, IfOk, IfErr, map, string_bytes};
-ghost use Rattle.std.specs.Option.{option_copied};
 ghost use Rattle.graphql_names.specs.Device.{device_failed};
 ghost use Rattle.checker_calls.specs.Devices.{HaveNotFailed};
 ghost use Rattle.checker_calls.specs.Layouts.{prefix_of};
@@ -24,11 +23,15 @@ use checker_calls::{
 use graphql_names::Device;
 use std::alloc::{AllocError, Global};
 use std::io::{Read, Write};
+use std::mem::forget;
 
 /// Reads the schema texts and then the document to their ends, judges them, makes the whole answer, and then writes it.
 ///
 /// If the schema is refused, the document is read but not judged. After every fault but [`RunFault::Writer`] nothing is
-/// out. If anything is out, each reader was read to its end.
+/// written. If anything is written, each reader was read to its end.
+///
+/// It is for a process that ends then: of what was read, the texts of the schema alone are given back. [`CheckedSchema`] gives
+/// all back.
 pub fn run<R: Read, D: Read, W: Write>(
     alloc: Global,
     schemas: &mut [Device<R>],
@@ -53,24 +56,33 @@ pub fn run<R: Read, D: Read, W: Write>(
         Ok(text) => text,
         Err(fault) => return Err(numbered(fault, schemas.len() + 1)),
     };
-    let (outcome, bytes) = judge(alloc, &texts, &text, limits, layout)?;
+    let (outcome, bytes) = judge(alloc, texts, &text, limits, layout)?;
     put(out, &bytes)?;
+    // A tenth of the time of a large schema would go into giving its memory back, part by part.
+    forget(bytes);
+    forget(text);
     Ok(outcome)
 }
 
 /// The outcome for the texts, and the bytes that go with it.
 fn judge(
     alloc: Global,
-    schemas: &[String],
+    schemas: Vec<String>,
     document: &str,
     limits: Limits,
     layout: Layout<'_>,
 ) -> Result<(Outcome, Parts), RunFault>
-    ensures answer { IsAnswerTo (prefix_of layout.entry) (first_terms limits.nesting) (map string_bytes schemas.now) document.now result }
-    ensures complete { IsCertain (first_terms limits.nesting) (map string_bytes schemas.now) document.now → AcceptsOrFails result }
+    ensures answer { IsAnswerTo (prefix_of layout.entry) (first_terms limits.nesting) (map string_bytes schemas.items) document.now result }
+    ensures complete { IsCertain (first_terms limits.nesting) (map string_bytes schemas.items) document.now → AcceptsOrFails result }
 {
-    match schema_of(alloc, schemas, limits) {
-        Ok(schema) => judge_document(alloc, &schema, document, layout),
+    match schema_of(alloc, &schemas, limits) {
+        Ok(schema) => {
+            // The schema has a copy of the texts, which are long.
+            drop(schemas);
+            let answer = judge_document(alloc, &schema, document, layout);
+            forget(schema);
+            answer
+        }
         Err(refusal) => refusal_answer(alloc, refusal),
     }
 }
@@ -99,17 +111,7 @@ fn accepted_answer(
 ) -> Result<Parts, AllocError>
     ensures { IfOk result (λ parts. AreSound parts × IsWrittenAnswer (prefix_of layout.entry) (document_value document.now).schema (document_value document.now).text (parts_bytes parts)) }
 {
-    let written_schema = document.schema().written(layout)?;
     let written_document = document.written(layout)?;
-    accepted(alloc, &written_schema, &written_document, prefix(layout))
-}
-
-/// What begins the lines of a text under the layout, where it has lines.
-fn prefix(layout: Layout<'_>) -> Option<&str>
-    ensures { option_copied result ≡ prefix_of layout.entry }
-{
-    match layout {
-        Layout::OneLine => None,
-        Layout::Indented(prefix) => Some(prefix),
-    }
+    let schema = document.schema;
+    accepted(alloc, &schema.written, &written_document, layout)
 }

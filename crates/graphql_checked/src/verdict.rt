@@ -37,7 +37,7 @@ pub fn check_texts(
     }
 }
 
-/// The schema of the texts, if they are accepted.
+/// The schema of the texts, if they are accepted, for one document.
 pub(crate) fn schema_of<T: AsStr>(
     alloc: Global,
     texts: &[T],
@@ -48,6 +48,7 @@ pub(crate) fn schema_of<T: AsStr>(
     ensures complete { IfErr result (λ r. AreSchemasCertain (first_terms limits.nesting) (map T.text texts.now) → r ≡ refusal.Memory) }
 {
     let mut checker = Checker::new(alloc, limits);
+    checker.is_for_one = true;
     for text in texts {
         checker.add_schema(text.as_str())?;
     }

@@ -7,7 +7,7 @@ use Rattle.verdict_definitions.specs.Texts.{SourceText, Terms}
 use Rattle.verdict_definitions.specs.Judge.{AreSchemasCertain, IsDocumentCertain}
 use Rattle.verdict_definitions.specs.Answer.{WritesDocument}
 use Rattle.graphql_names.specs.Placed.{Place}
-use Rattle.document_meaning.specs.MeantTree.{MeantDocument}
+use Rattle.spec_document.specs.MeantTree.{MeantDocument}
 use Rattle.checker_calls.specs.declared.refusal.Refusal.{Refusal}
 use Rattle.checker_calls.specs.declared.refusal.Refusal.TheVariants.{Faults, Memory, Failed}
 use Rattle.graphql_checked.specs.in_checker_schemas.Refusals.{RefusalOfSchemas}
@@ -20,9 +20,9 @@ use Rattle.graphql_checked.proofs.Verdicts.{yes_pair, refused_pair, certain_docu
 use Rattle.graphql_checked_c.specs.declared.handle.Kept.{Kept}
 use Rattle.graphql_checked_c.specs.declared.held.HeldText.{HeldText}
 use Rattle.graphql_checked_c.specs.HeldTexts.{text_of, AreHeld, AreNotNamed, OneHasNotUtf8}
-use Rattle.caller_memory.specs.Room.{IsPut}
-use Rattle.caller_memory.proofs.Cuts.{one_cut}
-use Rattle.graphql_checked_c.specs.Told.{IsKeptOfTexts, HoldsSchemaOf, KeepsOrNot, IsToldIn, IsUntold, AreCertainTexts, IsStatus, IsDoneOrMemory, IsDoneOrMemoryOrPrefix, IsYesOver, IsToldOver, OneIsNotUtf8, IsCertainOver, IsSchemaText, IsDocumentText, TellsRefusal, AnswersTexts, AnswersOver}
+use Rattle.ffi_memory.specs.Room.{IsPut}
+use Rattle.ffi_memory.proofs.Cuts.{one_cut}
+use Rattle.graphql_checked_c.specs.CallResults.{IsKeptOfTexts, HoldsSchemaOf, KeepsOrNot, IsToldIn, IsUntold, AreCertainTexts, IsStatus, IsDoneOrMemory, IsDoneOrMemoryOrPrefix, IsYesOver, IsToldOver, OneIsNotUtf8, IsCertainOver, IsSchemaText, IsDocumentText, TellsRefusal, AnswersTexts, AnswersOver}
 
 -- ---- statuses
 

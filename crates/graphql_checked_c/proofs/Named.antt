@@ -1,7 +1,7 @@
 -- Texts that are cut, and their names.
 use Rattle.std.proofs.Common.{◌≡◌, ℕ, suc, List, [], ◌∷◌, ◌+◌, length, map, Bor, refl, sym, ap, ◌∙◌}
 use Rattle.std.proofs.lemmas.List.{length-map}
-use Rattle.caller_memory.specs.Cut.{ends_of, IsCut}
+use Rattle.ffi_memory.specs.Cut.{ends_of, IsCut}
 
 ends_many : (start : ℕ) (texts : List (List ℕ)) → length (ends_of start texts) ≡ length texts
 ends_many start [] = refl

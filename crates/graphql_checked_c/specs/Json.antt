@@ -9,18 +9,18 @@ use Rattle.verdict_definitions.specs.Says.{AnyFault}
 use Rattle.graphql_checked_c.specs.declared.held.HeldText.{HeldText}
 use Rattle.graphql_checked_c.specs.HeldTexts.{path_of, text_of}
 
--- the bytes are so many lines
+-- the bytes are this number of lines
 abbrev pub AreLines : ℕ → List ℕ → Type 0
 AreLines zero bytes = bytes ≡ []
 AreLines (suc count) bytes = (before : List ℕ) × ((line : List ℕ) × ((bytes ≡ before ++ line) × (AreLines count before × IsOneLine line)))
 
--- what is told of faults of the schema's texts, or else of a document at that path; what has no place is under that name
+-- the entries for faults of the schema's texts, or else of a document at that path; those without a place have `path` as their name
 abbrev pub AreEntries : Bool → List Source → List ℕ → SourceText → List AnyFault → List Entry → Type 0
 AreEntries false sources path document faults entries = IsReport sources path faults entries
 AreEntries true sources path document faults entries = IsDocumentReport sources path document faults entries
 
--- The report of faults of the schema's texts, or else of a document at that path, where the texts have these names: an entry for each
--- fault, with its place, rule, message and other places, and a line for each entry.
+-- The report of faults of the schema's texts, or else of a document at that path, where the schema's texts have these names: an entry for each fault,
+-- with its place, rule, message and other places, and a line for each entry.
 pub record IsJson (is_document : Bool) (held : List HeldText) (path : List ℕ) (document : SourceText) (faults : List AnyFault) (bytes : List ℕ) : Type 0 where
   pub sources : List Source
   pub paths : map (λ s. s.path.now) sources ≡ map path_of held

@@ -1,4 +1,4 @@
 pub mod Json
-pub mod Told
+pub mod CallResults
 pub mod Held
 pub mod HeldTexts

@@ -14,7 +14,8 @@ pub(crate) const NOT_UTF8: u32 = 3;
 pub(crate) const MEMORY: u32 = 4;
 /// The stack is too small for the nesting, by measure.
 pub(crate) const STACK: u32 = 5;
-/// The ends are not those of texts and their names. What is null, 6, is told before these calls.
+/// The ends are not those of texts and their names. The status 6, for a null pointer, is told before these
+/// calls.
 pub(crate) const ENDS: u32 = 7;
 /// The prefix is not of spaces and tabs.
 pub(crate) const PREFIX: u32 = 8;

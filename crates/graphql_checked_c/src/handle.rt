@@ -5,7 +5,7 @@ ghost use Rattle.std.specs.Coded.{coded_option};
 ghost use Rattle.graphql_checked_c.specs.contracts.handle.Kept as kept;
 
 use crate::held::HeldText;
-use caller_memory::BoxPointer;
+use ffi_memory::BoxPointer;
 use graphql_checked::CheckedSchema;
 use std::alloc::Global;
 use std::marker::Model;

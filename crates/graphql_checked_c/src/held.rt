@@ -3,7 +3,7 @@
 ghost use Rattle.std.specs.Prelude.{◌≡◌, map, IfOk, IfErr, length};
 ghost use Rattle.graphql_checked_c.specs.HeldTexts.{path_of, text_of, AreHeld, IsHeldFault};
 
-use caller_memory::{TextsFault, texts_at};
+use ffi_memory::{TextsFault, texts_at};
 use report_forms::{Lines, Source};
 use std::alloc::{AllocError, Global};
 

@@ -4,7 +4,7 @@
 //! Faults are told as the program does, or as lines of JSON (`reports.rt`). Users call the functions of `include/graphql_checked.h`:
 //! `c/graphql_checked.c` keeps texts and answers for them, and calls those of `schemas.rt`.
 //!
-//! Begin with `schemas.rt`, and `specs/Told.antt`.
+//! Begin with `schemas.rt`, and `specs/CallResults.antt`.
 #![tactic(auto)]
 
 mod answer;

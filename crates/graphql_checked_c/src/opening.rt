@@ -8,13 +8,13 @@ ghost use Rattle.graphql_checked.specs.in_checker_schemas.Refusals.{RefusalOfSch
 ghost use Rattle.checker_calls.specs.declared.refusal.Refusal.TheVariants as refusal;
 ghost use Rattle.graphql_checked.specs.Verdicts.{first_terms};
 ghost use Rattle.graphql_checked_c.specs.HeldTexts.{text_of};
-ghost use Rattle.graphql_checked_c.specs.Told.{IsKeptOfTexts, AnswersTexts};
+ghost use Rattle.graphql_checked_c.specs.CallResults.{IsKeptOfTexts, AnswersTexts};
 
 use crate::answer::{Answer, ENDS, MEMORY, NOT_UTF8, bare};
 use crate::handle::Kept;
 use crate::held::{HeldText, held_texts};
 use crate::reports::refusal_answer;
-use caller_memory::TextsFault;
+use ffi_memory::TextsFault;
 use graphql_checked::{CheckedSchema, Checker, Limits, Refusal};
 use std::alloc::Global;
 

@@ -5,7 +5,7 @@ ghost use Rattle.checker_calls.specs.declared.refusal.Refusal.TheVariants.{Faile
 ghost use Rattle.checker_calls.specs.Layouts.{prefix_of};
 ghost use Rattle.graphql_checked.specs.CheckedView.{document_value};
 ghost use Rattle.graphql_checked.specs.CheckerValue.{WritesCheckedDocument};
-ghost use Rattle.graphql_checked_c.specs.Told.{IsYesOver, IsDocumentText, IsSchemaText, IsNoPrefix, layout_of, TellsText, TellsRefusal, AnswersOver};
+ghost use Rattle.graphql_checked_c.specs.CallResults.{IsYesOver, IsDocumentText, IsSchemaText, IsNoPrefix, layout_of, TellsText, TellsRefusal, AnswersOver};
 
 use crate::answer::{ACCEPTED, Answer, MEMORY, NOT_UTF8, bare};
 use crate::handle::Kept;
@@ -13,7 +13,7 @@ use crate::reports::refusal_answer;
 use graphql_checked::{CheckedDocument, CheckedSchema, Layout, Refusal};
 use std::alloc::{AllocError, Global};
 
-/// The answer of a document at that path, as bytes.
+/// The answer for a document at that path, given as bytes.
 #[tactic(auto, using(crate::proofs::Answers::over_not_utf8))]
 pub(crate) fn checked(
     alloc: Global,
@@ -33,7 +33,7 @@ pub(crate) fn checked(
     checked_text(alloc, held, json, path, text)
 }
 
-/// The answer of a document at that path.
+/// The answer for a document at that path.
 #[tactic(auto, using(crate::proofs::Answers::over_yes, crate::proofs::Answers::over_refused, crate::proofs::Answers::over_not_failed))]
 fn checked_text(alloc: Global, held: &Kept, json: bool, path: &str, text: &str) -> Answer
     ensures { AnswersOver json (λ bytes. IsYesOver held.now.schema text.now × (bytes ≡ [])) held.now path.now text.now result.status result.bytes.items }
@@ -44,7 +44,7 @@ fn checked_text(alloc: Global, held: &Kept, json: bool, path: &str, text: &str) 
     }
 }
 
-/// The answer of a refusal of a document.
+/// The answer for a refusal of a document.
 fn document_refused(
     alloc: Global,
     refusal: Refusal,
@@ -67,7 +67,7 @@ fn document_refused(
     )
 }
 
-/// The text of a document at that path, as bytes, under the layout, where it is accepted.
+/// The text of a document at that path, given as bytes, under the layout, if it is accepted.
 #[tactic(auto, using(crate::proofs::Answers::over_not_utf8))]
 pub(crate) fn document_text(
     alloc: Global,
@@ -88,7 +88,7 @@ pub(crate) fn document_text(
     text_of_document(alloc, held, json, path, text, layout)
 }
 
-/// The text of a document at that path under the layout, where it is accepted.
+/// The text of a document at that path under the layout, if it is accepted.
 #[tactic(auto, using(crate::proofs::Answers::over_written, crate::proofs::Answers::over_refused, crate::proofs::Answers::over_not_failed))]
 fn text_of_document(
     alloc: Global,
@@ -120,7 +120,7 @@ fn written_document(alloc: Global, document: &CheckedDocument<'_>, layout: Layou
     text_answer(alloc, document.written(layout))
 }
 
-/// The answer of a text that is written.
+/// The answer for a text that is written.
 fn text_answer(alloc: Global, text: Result<String, AllocError>) -> Answer
     ensures { TellsText text result.status result.bytes.items }
 {
@@ -133,7 +133,7 @@ fn text_answer(alloc: Global, text: Result<String, AllocError>) -> Answer
     }
 }
 
-/// The layout that is asked for, unless its lines are to begin with what is not of spaces and tabs.
+/// The layout that is asked for; none if its lines are to begin with anything but spaces and tabs.
 pub(crate) fn layout(lines: bool, prefix: &[u8]) -> Option<Layout<'_>>
     ensures layout { IfSome result (λ l. prefix_of l ≡ layout_of lines prefix.now) }
     ensures prefix { result ≡ None → IsNoPrefix lines prefix.now }

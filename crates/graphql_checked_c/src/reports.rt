@@ -4,7 +4,7 @@ ghost use Rattle.std.specs.Prelude.{◌≢◌, length, is_some, IfOk};
 ghost use Rattle.graphql_faults.specs.DetailsView.{diagnostics_of};
 ghost use Rattle.checker_calls.specs.declared.refusal.Refusal.TheVariants.{Failed};
 ghost use Rattle.graphql_checked_c.specs.Json.{AreLines, IsJson};
-ghost use Rattle.graphql_checked_c.specs.Told.{IsTold, TellsRefusal};
+ghost use Rattle.graphql_checked_c.specs.CallResults.{IsTold, TellsRefusal};
 
 use crate::answer::{Answer, MEMORY, REFUSED, bare};
 use crate::held::{HeldText, sources_of};
@@ -13,8 +13,8 @@ use graphql_checked::{DiagnosticList, Refusal, Schema};
 use graphql_report::{Entry, Report};
 use std::alloc::{AllocError, Global};
 
-/// The answer of a refusal: of the document at that path, where there is a schema that it is over; else of the texts of a schema,
-/// and then `path` is the name of what has no place.
+/// The answer for a refusal: of the document at that path, if a schema is given that it is over; else of the texts of a
+/// schema, and then `path` is the name for faults without a place.
 pub(crate) fn refusal_answer(
     alloc: Global,
     refusal: Refusal,
@@ -59,7 +59,7 @@ fn told(
     }
 }
 
-/// The report of the faults as lines of JSON. What may be meant is taken from the schema that the document is over.
+/// The report of the faults as lines of JSON. Names that may be meant are taken from the schema that the document is over.
 #[tactic(auto, using(crate::proofs::JsonLines::json_told))]
 fn json_of(
     alloc: Global,

@@ -2,22 +2,22 @@
 
 ghost use Rattle.std.specs.Prelude.{◌≡◌, ◌≢◌, None, IfSome};
 ghost use Rattle.graphql_checked_c.specs.HeldTexts.{OneHasNotUtf8, AreNotNamed};
-ghost use Rattle.graphql_checked_c.specs.Told.{HoldsSchemaOf, IsToldOfTexts, AreCertainTexts, IsYesOver, IsToldOver, IsCertainOver, OneIsNotUtf8, IsSchemaText, IsDocumentText, IsNoPrefix, layout_of, KeepsOrNot, IsStatus, IsDoneOrMemory, IsDoneOrMemoryOrPrefix, HasStack, IsToldIn, IsUntold};
+ghost use Rattle.graphql_checked_c.specs.CallResults.{HoldsSchemaOf, IsToldOfTexts, AreCertainTexts, IsYesOver, IsToldOver, IsCertainOver, OneIsNotUtf8, IsSchemaText, IsDocumentText, IsNoPrefix, layout_of, KeepsOrNot, IsStatus, IsDoneOrMemory, IsDoneOrMemoryOrPrefix, HasStack, IsToldIn, IsUntold};
 
 use crate::answer::{ACCEPTED, MEMORY, PREFIX, STACK};
 use crate::handle::{Handle, Kept, keep, take};
 use crate::opening::kept_of_texts;
 use crate::over::{checked, document_text, layout, schema_text};
-use caller_memory::{put, suffices};
+use ffi_memory::{put, suffices};
 use std::alloc::Global;
 
 /// Opens a handle on the schema of these texts, each of which ends where `ends` says, and has the name that ends where
 /// `name_ends` says. The bytes of both are to stay until the handle is closed.
 ///
-/// The status is 0 where it is open; 1 where the texts are refused, and then `needed` gets the length of the report, which is at
-/// the front of `room` where it fits, while else `room` is unchanged: as lines of JSON, or as the program tells it; 3 where a text
-/// or name is not UTF-8; 4 where memory ran out; 5 where the stack is too small; 7 where the ends are not those of so many texts
-/// and names.
+/// The status is 0 if it is open; 1 if the texts are refused: then `needed` gets the length of the report (lines of JSON, or
+/// as the program tells it), which is put at the front of `room` if it fits there, else `room` is unchanged; 3 if a text or
+/// name is not UTF-8; 4 if memory ran out; 5 if the stack is too small; 7 if the ends are not those of so many texts and
+/// names.
 #[unsafe(no_mangle)]
 #[tactic(auto, using(crate::proofs::Answers::put_nothing, crate::proofs::Answers::put_told, crate::proofs::Answers::some_is))]
 pub extern "C" fn graphql_proved_schema_open(
@@ -73,8 +73,8 @@ fn kept(alloc: Global, handle: &mut Handle, held: Kept) -> u32
 
 /// Checks a document at that path over the schema of the handle, which stays as it is.
 ///
-/// The status is 0 where the document is accepted; 1 where it is refused, and then the report is told as `graphql_proved_schema_open`
-/// does; 3 where it or its path is not UTF-8; 4 where memory ran out.
+/// The status is 0 if the document is accepted; 1 if it is refused, and then the report is told as
+/// `graphql_proved_schema_open` does; 3 if it or its path is not UTF-8; 4 if memory ran out.
 #[unsafe(no_mangle)]
 #[tactic(auto, using(crate::proofs::Answers::held_yes, crate::proofs::Answers::report_told, crate::proofs::Answers::held_complete, crate::proofs::Answers::check_untold))]
 pub extern "C" fn graphql_proved_schema_check(
@@ -104,8 +104,8 @@ pub extern "C" fn graphql_proved_schema_check(
 
 /// Writes the text of the schema of the handle: on one line, or in lines that begin with the prefix once for each level.
 ///
-/// The status is 0 where the text is told as `graphql_proved_schema_open` tells a report; 4 where memory ran out; 8 where the prefix is
-/// not of spaces and tabs.
+/// The status is 0 if the text is told as `graphql_proved_schema_open` tells a report; 4 if memory ran out; 8 if the prefix
+/// is not of spaces and tabs.
 #[unsafe(no_mangle)]
 #[tactic(auto, using(crate::proofs::Answers::schema_told, crate::proofs::Answers::schema_untold, crate::proofs::Answers::schema_status))]
 pub extern "C" fn graphql_proved_schema_text(
@@ -136,7 +136,7 @@ pub extern "C" fn graphql_proved_schema_text(
 
 /// Checks a document over the schema of the handle, and writes its text as `graphql_proved_schema_text` does the schema's.
 ///
-/// The status is 0 where the text is told; 1, 3 and 4 as of `graphql_proved_schema_check`; 8 where the prefix is not of spaces
+/// The status is 0 if the text is told; 1, 3 and 4 as for `graphql_proved_schema_check`; 8 if the prefix is not of spaces
 /// and tabs.
 #[unsafe(no_mangle)]
 #[tactic(auto, using(crate::proofs::Answers::put_nothing, crate::proofs::Answers::document_told, crate::proofs::Answers::report_told, crate::proofs::Answers::held_prefixed, crate::proofs::Answers::held_no_prefix))]

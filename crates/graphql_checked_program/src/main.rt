@@ -17,10 +17,10 @@ use std::fs::File;
 use std::io;
 use std::process::ExitCode;
 
-/// The status where the words are wrong.
+/// The status if the words are wrong.
 const WRONG_WORDS: u8 = 2;
 
-/// The words, the program's name first; none where one of them is not UTF-8.
+/// The words, the program's name first; none if one of them is not UTF-8.
 fn words(rt: &HostRuntime) -> Result<Option<Vec<String>>, RunFault> {
     match std::env::args(rt) {
         Ok(args) => Ok(Some(args.collect(rt.alloc())?)),

@@ -1,4 +1,4 @@
--- What contracts see of the answers to look-ups.
+-- What contracts see of the results of lookups.
 use Rattle.std.specs.Prelude.{Result, Ok, Err}
 use Rattle.std.specs.Borrow.{Bor}
 use Rattle.graphql_names.specs.declared.node.Node.{Node}
@@ -38,12 +38,12 @@ named_of (any.InputField f) = NamedAttribute (OfInputField (component_tree input
 named_of (any.EnumValue v) = NamedAttribute (OfEnumValue (component_tree enum_value_tree v.now))
 named_of (any.Argument a) = NamedArgument (node_tree input_value_tree a.now)
 
--- the answer, with what contracts see of what it lends
+-- the result of a lookup as contracts see it: f of the borrow that it has, or the fault
 abbrev pub answer : {A B : Type 0} → (A → B) → Result A SchemaLookupError → Result B LookupFault
 answer f (Ok x) = Ok (f x)
 answer f (Err e) = Err (fault_of e)
 
--- the same, of the definition of an argument
+-- the same for the definition of an argument
 abbrev pub argument_answer : Result (Bor (Node InputValueDefinition)) SchemaLookupError → Result (Placed Place (InputValueTree Place)) LookupFault
 argument_answer r = answer (λ a. node_tree input_value_tree a.now) r
 

@@ -10,7 +10,7 @@ use Rattle.graphql_schema.specs.in_schema_types.SchemaTree.{SchemaType, SchemaTr
 use Rattle.graphql_schema.specs.in_schema_types.Addresses.{under, type_at}
 use Rattle.graphql_schema.specs.in_schema_types.declared.type_kind.TypeKind.TheVariants.{Object, Interface, Enum, InputObject}
 
--- why nothing is found: the name that is missing or does not fit, or the type that has no attributes of that sort
+-- why nothing is found: a name that is missing or does not fit, or a type that has no attributes of the wanted kind
 pub data LookupFault : Type 0 where
   MissingType : (name : List ℕ) → LookupFault
   MissingAttribute : (name : List ℕ) → LookupFault
@@ -41,17 +41,17 @@ pub data Named : Type 0 where
   NamedAttribute : Attribute → Named
   NamedArgument : ArgumentOf → Named
 
--- what is found, as something else; the same faults
+-- like `Result::map`: f of what is found, and a fault is unchanged
 abbrev pub found_as : {A B : Type 0} → (A → B) → Result A LookupFault → Result B LookupFault
 found_as f (Ok x) = Ok (f x)
 found_as f (Err e) = Err e
 
--- go on with what is found
+-- like `Result::and_then`: f continues with what is found, and a fault is unchanged
 abbrev pub found_then : {A B : Type 0} → (A → Result B LookupFault) → Result A LookupFault → Result B LookupFault
 found_then f (Ok x) = f x
 found_then f (Err e) = Err e
 
--- the fields, input fields and values of a type: only objects and interfaces, input objects and enums have any
+-- a field, an input field and an enum value of a type: a type of a kind that has none of them is the fault `InvalidType`
 abbrev pub field_in : List ℕ → SchemaType Place → Result FieldOf LookupFault
 field_in a t = if same_kind t.kind Object || same_kind t.kind Interface then ok_or (under a t.fields) (MissingAttribute a) else Err (InvalidType t)
 

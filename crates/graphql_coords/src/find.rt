@@ -1,4 +1,4 @@
-//! How what a coordinate names is found.
+//! How to find what a coordinate names.
 ghost use Rattle.std.specs.Prelude.{◌≡◌};
 ghost use Rattle.graphql_names.specs.Placed.{node_tree};
 ghost use Rattle.tree_directives.specs.DirectiveTree.{input_value_tree, directive_definition_tree};

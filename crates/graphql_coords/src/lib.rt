@@ -1,7 +1,7 @@
 //! What schema coordinates name: their lookup in a schema. How they are formed, printed and read is in
 //! `schema_coordinates`, whose types this re-exports.
 //!
-//! For the layer above: each lookup answers by the schema's entries (`specs/LookUps.antt`).
+//! For the layer above: the result of each lookup is stated by the schema's entries (`specs/LookUps.antt`).
 //!
 //! Begin with `lookup.rt` and `specs/LookUps.antt`.
 #![tactic(auto)]

@@ -6,7 +6,7 @@ use Rattle.graphql_names.specs.Placed.{Place}
 use Rattle.tree_operations.specs.in_directives.declared.operation_type.OperationType.TheVariants.{Query}
 use Rattle.document_typed_selections.specs.TypedTree.{TypedSelection}
 use Rattle.document_typed_operations.specs.TypedDocument.{TypedOperation}
-use Rattle.document_walks.specs.Reached.{Fragments, IsWalk}
+use Rattle.document_typed_operations.specs.Reached.{Fragments, IsWalk}
 use Rattle.graphql_documents.specs.Introspection.{are_meta_fields, SaysIntrospection}
 
 module _ (fragments : Fragments Place) (o : TypedOperation Place) (left : List (TypedSelection Place)) (walk : IsWalk false fragments o.set left) where

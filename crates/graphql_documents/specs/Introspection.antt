@@ -1,13 +1,13 @@
--- Which operations ask for the schema alone: queries of which each root field is a meta-field (GraphQL, October 2021, sections 4, 4.1 and 4.2).
+-- Which operations ask only for the schema: queries whose root fields are all meta-fields (GraphQL, October 2021, sections 4, 4.1 and 4.2).
 use Rattle.std.specs.Prelude.{◌≡◌, ◌↔◌, ℕ, Bool, false, IsTrue, List, [], ◌∷◌, codes}
 use Rattle.std.specs.List.{list_all}
 use Rattle.tree_operations.specs.in_directives.declared.operation_type.OperationType.TheVariants.{Query}
 use Rattle.schema_components.specs.Lists.{is_among}
 use Rattle.document_typed_selections.specs.TypedTree.{TypedSelection, TypedField, TypedSpread, TypedInline}
 use Rattle.document_typed_operations.specs.TypedDocument.{TypedOperation}
-use Rattle.document_walks.specs.Reached.{Fragments, IsWalk}
+use Rattle.document_typed_operations.specs.Reached.{Fragments, IsWalk}
 
--- the names of the meta-fields
+-- whether this is the name of a meta-field
 abbrev pub is_meta_name : List ℕ → Bool
 is_meta_name n = is_among n (codes "__typename" ∷ codes "__schema" ∷ codes "__type" ∷ [])
 
@@ -20,6 +20,6 @@ module _ {P : Type 0} where
   abbrev pub are_meta_fields : List (TypedSelection P) → Bool
   are_meta_fields = list_all is_meta_field
 
-  -- the operation, in a document of these fragments, is a query and its root fields are meta-fields: just then it is said
+  -- b is true exactly when the operation, in a document with these fragments, is a query and all its root fields are meta-fields
   abbrev pub SaysIntrospection : Fragments P → TypedOperation P → Bool → Type 0
   SaysIntrospection fragments o b = (given : List (TypedSelection P)) × (IsWalk false fragments o.set given × (IsTrue b ↔ ((o.operation_type ≡ Query) × IsTrue (are_meta_fields given))))

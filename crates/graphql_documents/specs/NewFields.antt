@@ -1,4 +1,4 @@
--- Fields that a selection set makes: of a name, with the definition on the type of the set (GraphQL, October 2021, sections 2.5 and 5.3.1).
+-- New fields for a selection set: a name, and its definition on the type of the set (GraphQL, October 2021, sections 2.5 and 5.3.1).
 use Rattle.std.specs.Prelude.{ℕ, List, Option}
 use Rattle.std.specs.Option.{option_map}
 use Rattle.graphql_names.specs.Placed.{Placed, Place, Text}
@@ -11,11 +11,11 @@ use Rattle.document_typed_selections.specs.TypedParts.{bare_field}
 use Rattle.graphql_documents.specs.declared.new_field_error.NewFieldError.{NewFieldError}
 use Rattle.graphql_documents.specs.declared.new_field_error.NewFieldError.TheVariants.{Lookup, Memory}
 
--- name, a field of the definition that a type has, if it has one
+-- a bare field of this name with the definition that was found, if one was found
 abbrev pub bare_field_of : Text Place → Option (Given Place (Placed Place (FieldDefinitionTree Place))) → Option (TypedSelection Place)
 bare_field_of n found = option_map (λ d. bare_field n d.it) found
 
--- why no field of a name is made on the type of a name: it has none, or memory ran out
+-- why no field named n is made on the type named t: the lookup of the field fails with e, or memory ran out
 abbrev pub IsNewFieldError : SchemaTree Place → List ℕ → List ℕ → NewFieldError → Type 0
 IsNewFieldError s t n (Lookup e) = FieldIsMissing s t n e
 IsNewFieldError s t n Memory = Unit {0}

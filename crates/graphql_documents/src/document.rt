@@ -8,7 +8,7 @@ use std::alloc::Global;
 
 /// Calls that make a document.
 pub trait ExecutableDocumentExt {
-    /// A builder of no definitions, under this schema or without one. It takes no memory.
+    /// A builder without definitions, under this schema or without one. It takes no memory.
     fn builder<'schema>(
         alloc: Global,
         schema: Option<&'schema Schema>,

@@ -19,7 +19,7 @@ use tree_operations::Selection;
 
 /// Calls that make a selection set by itself.
 pub trait FieldSetExt {
-    /// A set on the type of that name, of the selections that have a meaning on it. The set is typed by its place. With
+    /// A set on the type of that name, with the selections that have a meaning on it. The set is typed by its place. With
     /// it comes each way in which a rule of typing is broken in it.
     fn from_ast(
         alloc: Global,

@@ -1,4 +1,4 @@
-//! What follows of building a document and writing it together.
+//! What follows from building a document and writing it.
 //!
 //! The law names the kept document of `specs/KeptDocument.antt`, the faults of
 //! `specs/TypingFaults.antt` and what is written by `specs/OutDoc.antt`, all of `document_typing`.
@@ -15,8 +15,8 @@ use std::alloc::Global;
 use tree_definitions::Document;
 
 /// What is written of all that was added, and each way in which a rule of typing is broken in it. What is written is
-/// what is kept. If no rule is broken, it is all operations, one without a name first, and then all fragments, each as
-/// it was read.
+/// what is kept. If no rule is broken, these are all operations, one without a name first, and then all fragments, each
+/// as it was read.
 pub fn written_and_told(
     alloc: Global,
     builder: ExecutableDocumentBuilder<'_>,

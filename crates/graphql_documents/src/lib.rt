@@ -1,12 +1,12 @@
-//! Documents under a schema: the face of the crates in which they are made, typed, written and walked.
+//! Documents under a schema: the public interface of the crates that make, type, write and walk them.
 //!
 //! For the layers above: contracts see a document as a plain tree (`specs/TypedDocument.antt` of
-//! `document_typed_operations`); what is built of documents is the kept document of `specs/KeptDocument.antt` of
-//! `document_typing`, typed by its place (`specs/TypedByPlace.antt`), what is told of them are the faults of
-//! `specs/TypingFaults.antt`, and what is written is `specs/OutDoc.antt`; a walk lends each reached field once
-//! (`specs/Reached.antt` of `document_walks`).
+//! `document_typed_operations`); what is built from documents is the kept document of `specs/KeptDocument.antt` of
+//! `document_typing`, typed by its place (`specs/TypedByPlace.antt`); the faults that are told are those of
+//! `specs/TypingFaults.antt`; what is written is that of `specs/OutDoc.antt`; a walk lends each reached field once
+//! (`specs/Reached.antt` of `document_typed_operations`).
 //!
-//! Calls that need more than a type's own crate has are those of traits, one for each type that has such calls:
+//! Calls that need more than the crate of their type has are in traits, one for each type that has such calls:
 //! [`SelectionSetExt`], [`OperationExt`], [`FieldExt`], [`FragmentSpreadExt`], [`ExecutableDocumentExt`] and
 //! [`FieldSetExt`].
 #![tactic(auto)]
@@ -22,7 +22,8 @@ mod selection_set;
 
 pub use document::ExecutableDocumentExt;
 pub use document_typed_operations::{
-    ExecutableDocument, FieldSet, Fragment, FragmentMap, Operation, OperationMap, Operations,
+    AllFields, ExecutableDocument, FieldSet, Fragment, FragmentMap, Operation, OperationMap,
+    Operations, RootFields,
 };
 pub use document_typed_selections::{
     Field, Fields, FragmentSpread, InlineFragment, Selection, SelectionSet,
@@ -31,7 +32,6 @@ pub use document_typing::{
     BuildError, BuilderRefusal, ConflictingFieldArgument, ConflictingFieldName,
     ConflictingFieldType, ExecutableDocumentBuilder,
 };
-pub use document_walks::{AllFields, RootFields};
 pub use field::FieldExt;
 pub use field_set::FieldSetExt;
 pub use fragment_spread::FragmentSpreadExt;

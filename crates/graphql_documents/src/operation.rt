@@ -1,19 +1,18 @@
 //! Calls of operations that need a document.
 ghost use Rattle.std.specs.Prelude.{◌≡◌, true, false, IfOk};
 ghost use Rattle.document_typed_operations.specs.TypedDocument.{typed_operation_tree, typed_document_tree};
-ghost use Rattle.document_walks.specs.Reached.{IsWalk, document_fragments};
-ghost use Rattle.document_walks.specs.Lending.{all_fields_is_over, all_fields_left, root_fields_is_over, root_fields_left};
+ghost use Rattle.document_typed_operations.specs.Reached.{IsWalk, document_fragments};
+ghost use Rattle.document_typed_operations.specs.Lending.{all_fields_is_over, all_fields_left, root_fields_is_over, root_fields_left};
 ghost use Rattle.graphql_documents.specs.Introspection.{is_meta_name, are_meta_fields, SaysIntrospection};
 
 use crate::selection_set::SelectionSetExt;
-use document_typed_operations::{ExecutableDocument, Operation};
-use document_walks::{AllFields, RootFields};
+use document_typed_operations::{AllFields, ExecutableDocument, Operation, RootFields};
 use graphql_names::Name;
 use std::alloc::{AllocError, Global};
 
 /// Calls of an operation that need its document.
 pub trait OperationExt {
-    /// Whether it is a query of which each root field is a meta-field (section 4).
+    /// Whether it is a query whose root fields are all meta-fields (section 4).
     fn is_introspection(
         &self,
         alloc: Global,

@@ -6,15 +6,14 @@ ghost use Rattle.document_typing.specs.in_schema.LookUps.{field_named};
 ghost use Rattle.document_typed_selections.specs.TypedTree.{set_type, typed_set_tree};
 ghost use Rattle.document_typed_selections.specs.TypedParts.{typed_field};
 ghost use Rattle.document_typed_operations.specs.TypedDocument.{typed_document_tree};
-ghost use Rattle.document_walks.specs.Reached.{IsWalk, document_fragments};
-ghost use Rattle.document_walks.specs.Lending.{all_fields_is_over, all_fields_left, root_fields_is_over, root_fields_left};
+ghost use Rattle.document_typed_operations.specs.Reached.{IsWalk, document_fragments};
+ghost use Rattle.document_typed_operations.specs.Lending.{all_fields_is_over, all_fields_left, root_fields_is_over, root_fields_left};
 ghost use Rattle.graphql_documents.specs.NewFields.{bare_field_of, IsNewFieldError};
 
 use crate::new_field_error::NewFieldError;
-use document_typed_operations::ExecutableDocument;
+use document_typed_operations::{AllFields, ExecutableDocument, RootFields};
 use document_typed_selections::{Field, SelectionSet};
 use document_typing::Schema;
-use document_walks::{AllFields, RootFields};
 use graphql_names::Name;
 use std::alloc::Global;
 

@@ -1,9 +1,9 @@
--- The text of what is wrong.
+-- The message of what is wrong.
 use Rattle.std.specs.Prelude.{ℕ, List, codes}
 use Rattle.graphql_read.specs.declared.fault.SyntaxFaultKind.{SyntaxFaultKind}
 use Rattle.graphql_read.specs.declared.fault.SyntaxFaultKind.TheVariants.{NoToken, Unexpected, End}
 use Rattle.schema_fold.specs.Messages as folding
-use Rattle.fault_document_data.specs.DocumentMessages.{document_message}
+use Rattle.fault_document_errors.specs.DocumentMessages.{document_message}
 use Rattle.fault_data.specs.Messages.{diagnostic_message}
 use Rattle.graphql_faults.specs.DetailsTree.{DetailsTree, Syntax, Nesting, Spent, SchemaBuild, DocumentBuild, Data, RecursionLimitError}
 

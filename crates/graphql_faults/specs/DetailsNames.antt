@@ -1,14 +1,14 @@
--- The names of what is wrong: those of the rules that are broken, and of what no rule tells.
+-- The name of what is wrong: that of the broken rule, or a name of its own where no rule is broken.
 use Rattle.std.specs.Prelude.{ℕ, List, codes}
 use Rattle.schema_fold.specs.BuildErrors as folding
 use Rattle.schema_fold.specs.BuildErrors.{Breach}
-use Rattle.fault_document_data.specs.DocumentBreaches as document
-use Rattle.fault_document_data.specs.DocumentBreaches.{DocumentBreach}
+use Rattle.fault_document_errors.specs.DocumentBreaches as document
+use Rattle.fault_document_errors.specs.DocumentBreaches.{DocumentBreach}
 use Rattle.fault_data.specs.in_rule_definitions.Diagnostics as rule
 use Rattle.fault_data.specs.in_rule_definitions.Diagnostics.{Diagnostic}
 use Rattle.graphql_faults.specs.DetailsTree.{DetailsTree, Syntax, Nesting, Spent, SchemaBuild, DocumentBuild, Data, RecursionLimitError}
 
--- of a rule of folding
+-- the name of a broken rule of folding
 abbrev pub folding_rule_name : Breach → List ℕ
 folding_rule_name folding.ExecutableDefinition = codes "ExecutableDefinition"
 folding_rule_name folding.SchemaDefinitionCollision = codes "SchemaDefinitionCollision"
@@ -27,7 +27,7 @@ folding_rule_name (folding.EnumValueNameCollision a b) = codes "EnumValueNameCol
 folding_rule_name (folding.UnionMemberNameCollision a b) = codes "UnionMemberNameCollision"
 folding_rule_name (folding.InputFieldNameCollision a b) = codes "InputFieldNameCollision"
 
--- of a rule of typing, of merging, of subscriptions or of @defer
+-- the name of a broken rule of typing, of merging, of subscriptions or of @defer
 abbrev pub document_rule_name : {P : Type 0} → DocumentBreach P → List ℕ
 document_rule_name document.TypeSystemDefinition = codes "TypeSystemDefinition"
 document_rule_name document.AmbiguousAnonymousOperation = codes "AmbiguousAnonymousOperation"
@@ -50,7 +50,7 @@ document_rule_name (document.DuplicateDeferLabel a b) = codes "DuplicateDeferLab
 document_rule_name (document.DeferOnRootMutationOrSubscriptionField a) = codes "DeferOnRootMutationOrSubscriptionField"
 document_rule_name document.DeferInSubscriptionMustBeConditional = codes "DeferInSubscriptionMustBeConditional"
 
--- of a rule of schemas, of uses, of values or of documents
+-- the name of a broken rule of schemas, of uses, of values or of documents
 abbrev pub rule_name : {P E : Type 0} → Diagnostic P E → List ℕ
 rule_name rule.QueryRootOperationType = codes "QueryRootOperationType"
 rule_name (rule.UndefinedDefinition a) = codes "UndefinedDefinition"

@@ -4,12 +4,12 @@ use Rattle.graphql_names.specs.Placed.{Place}
 use Rattle.graphql_read.specs.declared.fault.SyntaxFaultKind.{SyntaxFaultKind}
 use Rattle.schema_fold.specs.BuildErrors as folding
 use Rattle.schema_fold.specs.BuildErrors.{Breach}
-use Rattle.fault_document_data.specs.DocumentBreaches.{DocumentBreach, TypingFault}
+use Rattle.fault_document_errors.specs.DocumentBreaches.{DocumentBreach, TypingFault}
 use Rattle.fault_data.specs.in_rule_definitions.Diagnostics.{Diagnostic}
 use Rattle.fault_data.specs.in_rule_definitions.Faults.{FaultAt}
 use Rattle.rule_document_definitions.specs.DocumentFaults.{DocumentFault, OfData, OfDocument, OfLimit}
 
--- a P for each place that belongs to the data, an E for the places of a type's extensions
+-- P is the type of the places that belong to the data, E that of the places of a type's extensions
 pub data DetailsTree (P E : Type 0) : Type 0 where
   Syntax : (kind : SyntaxFaultKind) → DetailsTree P E
   Nesting : DetailsTree P E
@@ -24,15 +24,15 @@ pub record DetailsAt (P E : Type 0) : Type 0 where
   pub place : P
   pub details : DetailsTree P E
 
--- what breaks a rule, among all that can be wrong
+-- a fault of a rule on schemas, uses, values or documents
 abbrev pub of_rule : {P E : Type 0} → FaultAt P E → DetailsAt P E
 of_rule f = record { place = f.place; details = Data f.breach }
 
--- what breaks a rule of folding
+-- a fault of a rule of folding
 abbrev pub of_folding : folding.BuildFault → DetailsAt Place (List Place)
 of_folding f = record { place = f.place; details = SchemaBuild f.breach }
 
--- what breaks a rule of typing
+-- a fault of a rule of typing
 abbrev pub of_typing : TypingFault Place → DetailsAt Place (List Place)
 of_typing f = record { place = f.place; details = DocumentBuild f.breach }
 

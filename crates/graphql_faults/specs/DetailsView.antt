@@ -2,7 +2,7 @@
 use Rattle.std.specs.Prelude.{◌≡◌, List, ◌++◌, map}
 use Rattle.graphql_names.specs.Placed.{Place}
 use Rattle.schema_fold.specs.FaultView.{breach_of}
-use Rattle.fault_document_data.specs.DocumentBreachView.{document_breach_of}
+use Rattle.fault_document_errors.specs.DocumentBreachView.{document_breach_of}
 use Rattle.fault_data.specs.DiagnosticView.{diagnostic_of}
 use Rattle.graphql_faults.specs.DetailsTree as tree
 use Rattle.graphql_faults.specs.DetailsTree.{DetailsTree, DetailsAt}
@@ -26,6 +26,6 @@ details_at d = record { place = d.0; details = details_of d.1 }
 abbrev pub diagnostics_of : DiagnosticList → List (DetailsAt Place (List Place))
 diagnostics_of list = map details_at list.diagnostics.items
 
--- a list begins as another one, and may go on
+-- the second list begins with the first
 abbrev pub BeginsAs : {A : Type 0} → List A → List A → Type 0
 BeginsAs {A} front all = (rest : List A) × (all ≡ front ++ rest)

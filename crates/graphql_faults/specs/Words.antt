@@ -1,9 +1,10 @@
--- Lists of items and names in words, whatever the items' texts; where one has no known text, nothing is said.
+-- Lists of items and names in words, given each item's text; the result is None if a text that is needed is not
+-- known.
 use Rattle.std.specs.Prelude.{ℕ, List, [], ◌∷◌, codes, Option, None, Some}
 use Rattle.std.specs.Fmt.{option_append}
 
 module _ {A : Type 0} (text : A → Option (List ℕ)) where
-  -- an item behind another
+  -- an item after another: `, ` and its text
   abbrev pub further_item : A → Option (List ℕ)
   further_item x = option_append (Some (codes ", ")) (text x)
 
@@ -16,7 +17,7 @@ module _ {A : Type 0} (text : A → Option (List ℕ)) where
   comma_separated [] = Some []
   comma_separated (x ∷ xs) = option_append (text x) (further_items xs)
 
-  -- the prefix, a space and the name in backticks; without a name, other words
+  -- the prefix, a space and the name in backticks; without a name, `anon`
   abbrev pub name_or_anon : List ℕ → List ℕ → Option A → Option (List ℕ)
   name_or_anon prefix anon None = Some anon
   name_or_anon prefix anon (Some name) =

@@ -6,7 +6,7 @@ ghost use Rattle.graphql_faults.specs.DetailsNames.{details_name};
 
 use crate::rule_names::{document_rule_name, folding_rule_name, rule_name};
 use fault_data::DiagnosticData;
-use fault_document_data::BuildError as DocumentError;
+use fault_document_errors::BuildError as DocumentError;
 use graphql_read::SyntaxFaultKind;
 use schema_fold::BuildError as SchemaError;
 use std::fmt;

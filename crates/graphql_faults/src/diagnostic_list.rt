@@ -2,14 +2,14 @@
 ghost use Rattle.std.specs.Prelude.{◌≡◌, [], ◌∷◌, ◌++◌, length, map, take, OnOk, OnErr, IsTrue, ◌↔◌};
 ghost use Rattle.std.specs.Slice.Iter.{iter_rest};
 ghost use Rattle.schema_fold.specs.FaultView as folding;
-ghost use Rattle.fault_document_data.specs.FaultView as typing;
+ghost use Rattle.fault_document_errors.specs.FaultView as typing;
 ghost use Rattle.fault_data.specs.FaultView.{fault_of, faults_of};
 ghost use Rattle.graphql_faults.specs.DetailsTree.{of_rule, of_folding, of_typing};
 ghost use Rattle.graphql_faults.specs.DetailsView.{details_at, diagnostics_of, BeginsAs};
 
 use crate::details::Details;
 use fault_data::Fault;
-use fault_document_data::BuildError as DocumentError;
+use fault_document_errors::BuildError as DocumentError;
 use graphql_names::SourceSpan;
 use schema_fold::BuildError as SchemaError;
 use std::alloc::{AllocError, Global};
@@ -27,7 +27,7 @@ impl Drop for DiagnosticList {
 }
 
 impl DiagnosticList {
-    /// The list of nothing.
+    /// The empty list.
     pub fn new(alloc: Global) -> DiagnosticList
         ensures { diagnostics_of result ≡ [] }
     {
@@ -43,7 +43,7 @@ impl DiagnosticList {
         DiagnosticList { diagnostics }
     }
 
-    /// All of them, in order, by themselves.
+    /// All of them, in order, as a plain list.
     pub fn into_vec(self) -> Vec<(Option<SourceSpan>, Details)>
         ensures { map details_at result.items ≡ diagnostics_of self }
     {
@@ -105,7 +105,7 @@ impl DiagnosticList {
         Ok(())
     }
 
-    /// The same of what breaks rules of typing, as the builder of a document gives it.
+    /// As `append_schema_errors`, for what breaks rules of typing, as the builder of a document gives it.
     pub fn append_document_errors(
         &mut self,
         errors: Vec<(Option<SourceSpan>, DocumentError)>,
@@ -119,7 +119,7 @@ impl DiagnosticList {
         Ok(())
     }
 
-    /// Keeps the first ones, at most so many.
+    /// Keeps the first `len` of them, or all if there are fewer.
     pub fn truncate(&mut self, len: usize)
         ensures { diagnostics_of self.new ≡ take len (diagnostics_of self.old) }
     {

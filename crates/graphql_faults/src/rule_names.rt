@@ -1,12 +1,12 @@
 //! The names of rules.
 ghost use Rattle.std.specs.Prelude.{◌≡◌};
 ghost use Rattle.schema_fold.specs.FaultView.{breach_of};
-ghost use Rattle.fault_document_data.specs.DocumentBreachView.{document_breach_of};
+ghost use Rattle.fault_document_errors.specs.DocumentBreachView.{document_breach_of};
 ghost use Rattle.fault_data.specs.DiagnosticView.{diagnostic_of};
 ghost use Rattle.graphql_faults.specs.DetailsNames.{folding_rule_name, document_rule_name, rule_name};
 
 use fault_data::DiagnosticData;
-use fault_document_data::BuildError as DocumentError;
+use fault_document_errors::BuildError as DocumentError;
 use schema_fold::BuildError as SchemaError;
 
 /// The name of the rule of folding that is broken.

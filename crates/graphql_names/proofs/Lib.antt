@@ -1,3 +1,4 @@
 pub mod Pieces
 pub mod SameLemmas
 pub mod Copies
+pub mod Narrowed

@@ -1,8 +1,8 @@
--- What a text gives a hasher.
+-- What a text writes to a hasher.
 use Rattle.std.specs.Prelude.{ℕ, zero, suc, ◌/◌, List, [], ◌∷◌, length, take, drop}
 use Rattle.std.specs.Hash.{HashWrites}
 
--- so many pieces of eight bytes each, and then what is left
+-- this many pieces of eight bytes each, and then the rest of the text
 abbrev pub pieces : ℕ → List ℕ → HashWrites
 pieces zero text = text ∷ []
 pieces (suc n) text = take 8 text ∷ pieces n (drop 8 text)

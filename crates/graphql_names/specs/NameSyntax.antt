@@ -11,7 +11,7 @@ is_name_start c = is_ascii_alphabetic c || c == 95
 abbrev pub is_name_continue : ℕ → Bool
 is_name_continue c = is_name_start c || is_ascii_digit c
 
--- Name: one NameStart, and then NameContinues alone
+-- Name: one NameStart, and then any number of NameContinues
 abbrev pub is_name : List ℕ → Bool
 is_name [] = false
 is_name (c ∷ cs) = is_name_start c && list_all is_name_continue cs

@@ -19,13 +19,13 @@ text_is_static (Shared s) = false
 text_is_static (Part p) = false
 text_is_static (Static s) = true
 
--- what `as_static_str` answers: the text of a static name alone
+-- what `as_static_str` answers: the text if the name is static, else `None`
 abbrev pub static_answer : Bool → List ℕ → Option (Bor (List ℕ)) → Type 0
 static_answer true text None = ⊥
 static_answer true text (Some s) = s.now ≡ text
 static_answer false text answer = answer ≡ None
 
--- what `to_cloned_arc` answers: the text of each name that is not static
+-- what `to_cloned_arc` answers: `None` if the name is static, else the text
 abbrev pub shared_answer : {A : Type 0} → Bool → List ℕ → Option (RcStr A) → Type 0
 shared_answer true text answer = answer ≡ None
 shared_answer false text None = ⊥

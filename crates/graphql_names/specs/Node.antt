@@ -1,4 +1,4 @@
--- What clauses read of a `Node`: what it holds and where it was read, and what a borrow of it leaves.
+-- What contracts see of a `Node`: its content, its place, and what it holds after a borrow of its content ends.
 use Rattle.std.specs.Prelude.{◌≡◌, Option, ◌⊎◌}
 use Rattle.std.specs.Borrow.{MutBor, Fml, LendsIf, LendsSoOk}
 use Rattle.std.specs.declared.result.Result.{Result}
@@ -13,7 +13,7 @@ module _ {A : Type 0} where
   abbrev pub content : Node A → A
   content n = n.shared.value
 
-  -- where a node was read
+  -- the place that a node was read from, if it was read
   abbrev pub place : Node A → Option SourceSpan
   place n = n.location
 
@@ -21,7 +21,8 @@ module _ {A : Type 0} where
   abbrev pub with_content : Node A → A → Node A
   with_content n x = record n { shared = record n.shared { value = x } }
 
--- once the borrow r ends, the node holds the last value written through r, at its old place; at `None` it is unchanged
+-- once the borrow r ends, the node holds the last value written through r, at its old place; if the answer is `None`,
+-- the node is unchanged
 abbrev pub LendsContent : (T : RattleType) → MutBor (Node T.Denot) → Option (MutBor T.Denot) → Fml
 LendsContent T s r = LendsIf (the_row T) T s r (with_content s.now) s.now
 
@@ -29,8 +30,8 @@ LendsContent T s r = LendsIf (the_row T) T s r (with_content s.now) s.now
 abbrev pub IsCopy : {A : Type 0} → (A → A → Type 0) → A → A → Type 0
 IsCopy is_clone x y = (y ≡ x) ⊎ is_clone x y
 
--- once the borrow r ends, the node holds the last value written through r, at its old place; at `Err`
--- the node holds its content or a copy of it, at its old place
+-- once the borrow r ends, the node holds the last value written through r, at its old place; if the answer
+-- is `Err`, the node holds its old content or a copy of it, at its old place
 abbrev pub LendsCopy : (T : RattleType) → (T.Denot → T.Denot → Type 0) → MutBor (Node T.Denot)
     → Result (MutBor T.Denot) AllocError → Fml
 LendsCopy T is_clone s r = LendsSoOk (the_row T) T s r

@@ -3,7 +3,7 @@ use Rattle.std.specs.Prelude.{ℕ, List, Option}
 use Rattle.std.specs.Str.{IsUtf8}
 use Rattle.graphql_names.specs.declared.span.SourceSpan.{SourceSpan}
 
--- a text in bytes, which are UTF-8, and its place
+-- a text in bytes, which are UTF-8, and its place, if it has one
 pub record NodeStrValue : Type 0 where
   pub text : List ℕ
   pub location : Option SourceSpan

@@ -1,4 +1,4 @@
--- What is common to all trees: something, and what stands for its place.
+-- What all trees are built from: values with places.
 use Rattle.std.specs.Prelude.{ℕ, List, Option}
 use Rattle.graphql_names.specs.Node.{content, place}
 use Rattle.graphql_names.specs.NodeStrValue.{NodeStrValue}
@@ -6,16 +6,16 @@ use Rattle.graphql_names.specs.NameValue.{NameValue}
 use Rattle.graphql_names.specs.declared.span.SourceSpan.{SourceSpan}
 use Rattle.graphql_names.specs.declared.node.Node.{Node}
 
--- something, and what stands for its place: where it was read, or nothing
+-- a value and its place; the type P is `Place`, or `Unit {0}` where places are ignored
 pub record Placed (P A : Type 0) : Type 0 where
   pub it : A
   pub place : P
 
--- where something was read, if it was
+-- the place that something was read from, if it was read
 abbrev pub Place : Type 0
 Place = Option SourceSpan
 
--- a text with a P for its place: a name, or a description
+-- a text with its place: a name, or a description
 abbrev pub Text : Type 0 → Type 0
 Text P = Placed P (List ℕ)
 
@@ -28,7 +28,7 @@ text_tree s = record { it = s.text; place = s.location }
 abbrev pub node_tree : {A B : Type 0} → (A → B) → Node A → Placed Place B
 node_tree f n = record { it = f (content n); place = place n }
 
--- the same with nothing for the place
+-- texts and nodes without their places
 abbrev pub unplaced_text : {P : Type 0} → Text P → Text (Unit {0})
 unplaced_text t = record { it = t.it; place = tt }
 

@@ -35,7 +35,7 @@ impl<D> Cut<D> {
         self.calls
     }
 
-    /// The error of its ending, once its bytes are used up. Where that fails once, bytes are left again.
+    /// The error of its ending, once its bytes are used up. If the ending fails once, bytes are left again.
     fn fail(&mut self) -> Error
         requires { cut_left self.old ≡ 0 }
         ensures kind { error_kind result ≡ ending_kind (cut_ending self.old) }
@@ -95,7 +95,7 @@ impl<R: Read> Read for Cut<R> {
 impl<W: Write> Write for Cut<W> {
     ghost contents = { λ s. W.contents (cut_inner s) };
 
-    /// Writes at most `most` bytes. With none left it ends as it is told.
+    /// Writes at most `most` bytes. With none left it ends as its [`Ending`] says.
     fn write(&mut self, buf: &[u8]) -> io::Result<usize>
         ensures bound { WritesAtMost result buf.now }
         ensures bytes { WriteAppends (W.contents (cut_inner self.old))

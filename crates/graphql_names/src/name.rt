@@ -63,7 +63,7 @@ pub struct Name {
     ghost as_long: { IsPlaceOf (text_bytes text) location },
 }
 
-// Not derived: a derived drop is proved again in each crate that drops one.
+// Not derived: a derived drop is proved again in every crate that uses it.
 impl Drop for Name {
     fn drop(self) {
         let Name {

@@ -10,7 +10,7 @@ use std::rc::RcStr;
 #[derive(Drop)]
 pub(crate) enum NameText {
     Shared(RcStr),
-    // A name that is read: it takes no memory of its own, as it points into its text.
+    // The text of a name that was read: it takes no memory of its own, as it points into the whole text.
     Part(TextPart),
     Static(&'static str),
 }

@@ -15,7 +15,7 @@ pub struct Node<T> {
     location: Option<SourceSpan>,
 }
 
-// Not derived: a derived drop is proved again in each crate that drops one.
+// Not derived: a derived drop is proved again in every crate that uses it.
 impl<T: Drop> Drop for Node<T> {
     fn drop(self) {
         let Node {

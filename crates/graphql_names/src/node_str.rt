@@ -1,6 +1,5 @@
-//! Shared texts with the places that they were read from.
+//! Shared texts, and parts of shared texts, with the places that they were read from.
 ghost use Rattle.std.specs.Prelude.{◌≡◌, IfOk, Some, None, nat_eq};
-ghost use Rattle.std.specs.Rc.{rc_str_bytes};
 ghost use Rattle.std.specs.String.{string_bytes};
 ghost use Rattle.std.specs.Cmp;
 ghost use Rattle.std.specs.Cmp.{on_equiv, on_per};
@@ -9,9 +8,11 @@ ghost use Rattle.std.specs.Cmp.Rules.{hashing};
 ghost use Rattle.std.proofs.Common.{rules};
 ghost use Rattle.graphql_names.specs.HashedText.{hashed_text};
 ghost use Rattle.graphql_names.specs.Places.{is_built_in};
+ghost use Rattle.graphql_names.specs.TextPart.{part_bytes};
 
 use crate::span::{FileId, SourceSpan};
 use crate::text_hash::hash_text;
+use crate::text_part::TextPart;
 use std::alloc::{AllocError, Global};
 use std::fmt;
 use std::hash::{Hash, Hasher};
@@ -19,31 +20,32 @@ use std::marker::Model;
 use std::ops::DerefStr;
 use std::rc::RcStr;
 
-/// A shared text, and the place that it was read from, if it was read.
+/// A shared text or a part of one, and the place that it was read from, if it was read.
 ///
 /// Contracts see it as its text in bytes and its place.
 pub struct NodeStr {
-    shared: RcStr,
+    // A text of its own is the part that is the whole of it.
+    part: TextPart,
     location: Option<SourceSpan>,
 }
 
-// Not derived: a derived drop is proved again in each crate that drops one.
+// Not derived: a derived drop is proved again in every crate that uses it.
 impl Drop for NodeStr {
     fn drop(self) {
         let NodeStr {
-            shared: _,
+            part: _,
             location: _,
         } = self;
     }
 }
 
 impl Model for NodeStr {
-    ghost use Rattle.std.specs.Rc.{rc_str_bytes};
+    ghost use Rattle.graphql_names.specs.TextPart.{part_bytes, part_utf8};
     ghost use Rattle.graphql_names.specs.NodeStrValue.{NodeStrValue};
 
     ghost Value = { NodeStrValue };
 
-    ghost view = { λ n. record { text = rc_str_bytes n.shared; location = n.location; utf8 = n.shared.text.value.ok } };
+    ghost view = { λ n. record { text = part_bytes n.part; location = n.location; utf8 = part_utf8 n.part } };
 }
 
 impl NodeStr {
@@ -53,7 +55,7 @@ impl NodeStr {
         ensures location { IfOk result (λ n. n.location ≡ None) }
     {
         Ok(NodeStr {
-            shared: RcStr::from_str(alloc, text)?,
+            part: TextPart::all_of(RcStr::from_str(alloc, text)?),
             location: None,
         })
     }
@@ -68,7 +70,7 @@ impl NodeStr {
         ensures location { IfOk result (λ n. n.location ≡ Some location) }
     {
         Ok(NodeStr {
-            shared: RcStr::from_str(alloc, text)?,
+            part: TextPart::all_of(RcStr::from_str(alloc, text)?),
             location: Some(location),
         })
     }
@@ -78,16 +80,28 @@ impl NodeStr {
         ensures text { IfOk result (λ n. n.text ≡ string_bytes text) }
         ensures location { IfOk result (λ n. n.location ≡ Some location) }
     {
-        let shared = RcStr::from_string(text)?;
+        let part = TextPart::all_of(RcStr::from_string(text)?);
         let location = Some(location);
-        Ok(NodeStr { shared, location })
+        Ok(NodeStr { part, location })
+    }
+
+    /// `text`, a part of a shared text, which was read from `location`. Nothing is copied.
+    pub fn from_part_parsed(text: TextPart, location: SourceSpan) -> NodeStr
+        ensures text { result.text ≡ part_bytes text }
+        ensures location { result.location ≡ Some location }
+    {
+        let place = Some(location);
+        NodeStr {
+            part: text,
+            location: place,
+        }
     }
 
     /// The text.
     pub fn as_str(&self) -> &str
         ensures { result.now ≡ self.now.text }
     {
-        self.shared.as_str()
+        self.part.as_str()
     }
 
     /// The place that it was read from, if it was read.
@@ -125,7 +139,7 @@ impl Clone for NodeStr {
 
     fn clone(&self) -> Result<NodeStr, AllocError> {
         Ok(NodeStr {
-            shared: self.shared.clone()?,
+            part: self.part.clone()?,
             location: self.location,
         })
     }

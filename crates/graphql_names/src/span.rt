@@ -6,7 +6,7 @@ ghost use Rattle.std.specs.Prelude.{◌+◌, ◌<◌, ◌^◌};
 pub struct FileId(pub u64);
 
 impl FileId {
-    /// The file of the built-in definitions, which is no text's.
+    /// The file of the built-in definitions, which belongs to no text.
     pub const BUILT_IN: FileId = FileId(0);
 }
 
@@ -15,7 +15,7 @@ impl FileId {
 pub struct SourceSpan {
     /// The file.
     pub file_id: FileId,
-    /// How many bytes of the file stand before the place.
+    /// How many bytes of the file come before the place.
     pub offset: usize,
     /// How many bytes long it is.
     pub length: usize,

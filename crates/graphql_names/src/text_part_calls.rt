@@ -25,6 +25,38 @@ impl TextPart {
         })
     }
 
+    /// The whole of a shared text.
+    pub(crate) fn all_of(whole: RcStr) -> TextPart
+        ensures { part_bytes result ≡ rc_str_bytes whole }
+    {
+        let end = whole.as_str().len();
+        TextPart {
+            whole,
+            start: 0,
+            end,
+        }
+    }
+
+    /// The part of this part from its byte `start` up to its byte `end`, which is not before `start`. At both its text
+    /// may be cut, as `str::is_char_boundary` tells. The text is neither copied nor shared once more.
+    pub fn narrowed(self, start: usize, end: usize) -> TextPart
+        requires ordered { start ≤ end }
+        requires begins { IsCharBoundary (part_bytes self) start }
+        requires ends { IsCharBoundary (part_bytes self) end }
+        ensures { part_bytes result ≡ slice_range (part_bytes self) start end }
+    {
+        let TextPart {
+            whole,
+            start: before,
+            end: _,
+        } = self;
+        TextPart {
+            whole,
+            start: before + start,
+            end: before + end,
+        }
+    }
+
     /// The text of the part.
     pub fn as_str(&self) -> &str
         ensures { result.now ≡ part_bytes self.now }

@@ -6,8 +6,8 @@ use Rattle.read_tokens.specs.Tokens.{ignored_at, token_at}
 use Rattle.read_tokens.specs.Lex.{Piece, piece_at, ArePieces, Lex, NothingBegins}
 use Rattle.read_tokens.specs.Cursor.{EndsAs, is_stuck, is_stuck_at}
 use Rattle.read_tokens.proofs.Lexed.{lex_unique}
-use Rattle.read_grammar.specs.declared.stop.Stop.{Stop}
-use Rattle.read_grammar.specs.declared.stop.Stop.TheVariants.{Memory, Unexpected}
+use Rattle.read_grammar.specs.declared.parse_error.ParseError.{ParseError}
+use Rattle.read_grammar.specs.declared.parse_error.ParseError.TheVariants.{Memory, Unexpected}
 use Rattle.read_grammar.specs.Reading.{Outcome, Parser, and_then, ended, ended_at, whole}
 use Rattle.read_grammar.proofs.Exact.{ok_is}
 use Rattle.graphql_read.specs.Calls.{end_of_text, end_of_text_at, all_of}
@@ -71,10 +71,10 @@ module _ {A : Type 0} where
   abbrev done_at : A → Input → Outcome A
   done_at x o = Ok (x, o)
 
-  abbrev stop_at : Stop → Input → Outcome A
+  abbrev stop_at : ParseError → Input → Outcome A
   stop_at stop o = Err (stop, o)
 
-  abbrev stop_of : Outcome A → Stop
+  abbrev stop_of : Outcome A → ParseError
   stop_of (Ok z) = Memory
   stop_of (Err f) = f.0
 
@@ -102,7 +102,7 @@ module _ {A : Type 0} where
         go (Ok w) at = by_next w (next w.1) refl at
         go (Err f) at = absurd cc
 
-    pub all_err : (stop : Stop) (z : Input) → all_of (p n) i ≡ Err (stop, z) → (whole p n i ≡ Err (stop, z)) ⊎ ((stop ≡ Unexpected) × ((x : A) × (whole p n i ≡ Ok (x, z)) × AtEnd z true))
+    pub all_err : (stop : ParseError) (z : Input) → all_of (p n) i ≡ Err (stop, z) → (whole p n i ≡ Err (stop, z)) ⊎ ((stop ≡ Unexpected) × ((x : A) × (whole p n i ≡ Ok (x, z)) × AtEnd z true))
     unfolding whole
     all_err stop z at = go (p n i) at
       where

@@ -5,8 +5,8 @@ use Rattle.read_tokens.specs.declared.terminal.Terminal.{Terminal}
 use Rattle.read_tokens.specs.Input.{Token, Input, Ending, Ended, NoTokenAt, next}
 use Rattle.read_tokens.specs.Cursor.{EndsAs, is_stuck_at, input_from}
 use Rattle.read_tokens.proofs.Lexed.{ends_as}
-use Rattle.read_grammar.specs.declared.stop.Stop.{Stop}
-use Rattle.read_grammar.specs.declared.stop.Stop.TheVariants.{Memory, Unexpected, Nesting}
+use Rattle.read_grammar.specs.declared.parse_error.ParseError.{ParseError}
+use Rattle.read_grammar.specs.declared.parse_error.ParseError.TheVariants.{Memory, Unexpected, Nesting}
 use Rattle.read_grammar.specs.Rules.{Rule}
 use Rattle.read_grammar.specs.Grammar.{DerivesAs}
 use Rattle.read_grammar.specs.Depth.{depth}
@@ -74,7 +74,7 @@ module _ {A : Type 0} {r : ℕ → Rule A} {p : ℕ → Parser A} {b e : Test} (
     pub only : (tree other : A) (z : Input) → all_of (p n) i ≡ Ok (tree, z) → ReadsWithin (DerivesAs r) n text other → other ≡ tree
     only tree other z at d = sym (t.same_tree parses ends n i begins tree other z (all_ok p n i tree z at).0 (of_ahead other d).2)
 
-    stops : (stop : Stop) (z : Input) (tree : A) → all_of (p n) i ≡ Err (stop, z) → ReadsWithin (DerivesAs r) n text tree → fault_of stop z ≡ faults.Memory
+    stops : (stop : ParseError) (z : Input) (tree : A) → all_of (p n) i ≡ Err (stop, z) → ReadsWithin (DerivesAs r) n text tree → fault_of stop z ≡ faults.Memory
     stops stop z tree at d = go (all_err p n i stop z at)
       where
         go : (whole p n i ≡ Err (stop, z)) ⊎ ((stop ≡ Unexpected) × ((x : A) × (whole p n i ≡ Ok (x, z)) × AtEnd z true)) → fault_of stop z ≡ faults.Memory
@@ -82,7 +82,7 @@ module _ {A : Type 0} {r : ℕ → Rule A} {p : ℕ → Parser A} {b e : Test} (
         go (inr h) = let k = of_ahead tree d in absurd (not_stuck z.ahead z.ending k.0 (same_ending h.1.0 z h.1.1 ∙ k.1) h.1.2.is)
 
     -- where the text has a tree, a stop is want of memory
-    pub memory : (stop : Stop) (z : Input) (tree : A) → (stop ≢ Memory → all_of (p n) i ≡ Err (stop, z)) → ReadsWithin (DerivesAs r) n text tree → fault_of stop z ≡ faults.Memory
+    pub memory : (stop : ParseError) (z : Input) (tree : A) → (stop ≢ Memory → all_of (p n) i ≡ Err (stop, z)) → ReadsWithin (DerivesAs r) n text tree → fault_of stop z ≡ faults.Memory
     memory Memory z tree at d = refl
     memory Unexpected z tree at d = stops Unexpected z tree (at (λ e. cc)) d
     memory Nesting z tree at d = stops Nesting z tree (at (λ e. cc)) d
@@ -99,17 +99,17 @@ module _ {A : Type 0} {r : ℕ → Rule A} {p : ℕ → Parser A} {b e : Test} (
       stuck_says [] (Ended at) none same is some = absurd cc
       stuck_says (token ∷ ts) ending none same is some = absurd cc
 
-      says : (stop : Stop) (z : Input) → all_of (p n) i ≡ Err (stop, z) → Says (DerivesAs r) i.ahead i.ending n (fault_of stop z)
+      says : (stop : ParseError) (z : Input) → all_of (p n) i ≡ Err (stop, z) → Says (DerivesAs r) i.ahead i.ending n (fault_of stop z)
       says stop z at = go (all_err p n i stop z at)
         where
           go : (whole p n i ≡ Err (stop, z)) ⊎ ((stop ≡ Unexpected) × ((x : A) × (whole p n i ≡ Ok (x, z)) × AtEnd z true)) → Says (DerivesAs r) i.ahead i.ending n (fault_of stop z)
           go (inl h) = t.says parses ends n i begins viable free stop z (λ other. h)
           go (inr h) =
-              subst (λ (s : Stop). Says (DerivesAs r) i.ahead i.ending n (fault_of s z)) (sym h.0)
+              subst (λ (s : ParseError). Says (DerivesAs r) i.ahead i.ending n (fault_of s z)) (sym h.0)
               (stuck_says z.ahead z.ending h.1.2.none (same_ending h.1.0 z h.1.1) h.1.2.is (all_begin h.1.0 z h.1.1))
 
       -- at each stop the fault is due
-      pub due : (stop : Stop) (z : Input) → (stop ≢ Memory → all_of (p n) i ≡ Err (stop, z)) → IsDue (DerivesAs r) n text (fault_of stop z)
+      pub due : (stop : ParseError) (z : Input) → (stop ≢ Memory → all_of (p n) i ≡ Err (stop, z)) → IsDue (DerivesAs r) n text (fault_of stop z)
       due Memory z at = record { tokens = i.ahead; ending = i.ending; lexed = lexed; says = tt }
       due Unexpected z at = record { tokens = i.ahead; ending = i.ending; lexed = lexed; says = says Unexpected z (at (λ e. cc)) }
       due Nesting z at = record { tokens = i.ahead; ending = i.ending; lexed = lexed; says = says Nesting z (at (λ e. cc)) }

@@ -1,5 +1,5 @@
--- Every place in a tree: that of each node, name and description, at any depth. Below, `all_in_..` says that each of them
--- passes a test.
+-- Every place in a tree: that of each node, name and description, at any depth. Below, `all_in_..` says that each of these
+-- places passes a test.
 use Rattle.std.specs.Prelude.{Bool, true, ◌&&◌, List, Option}
 use Rattle.std.specs.List.{list_all}
 use Rattle.std.specs.Option.{option_map_or}
@@ -20,7 +20,7 @@ module _ {P : Type 0} (passes : P → Bool) where
   abbrev pub all_in_texts : List (Text P) → Bool
   all_in_texts ts = list_all all_in_text ts
 
-  -- where one may be left out
+  -- of something that may be left out
   abbrev pub all_in_any : {A : Type 0} → (A → Bool) → Option A → Bool
   all_in_any inside o = option_map_or inside o true
 
@@ -136,7 +136,7 @@ module _ {P : Type 0} (passes : P → Bool) where
   abbrev pub all_in_input_object : InputObjectParts P → Bool
   all_in_input_object t = all_in_text t.name && all_in_directives t.directives && all_in_input_values t.fields
 
-  -- what may have a description
+  -- of a definition that may have a description
   abbrev pub all_in_described : {A : Type 0} → P → Option (Text P) → (A → Bool) → A → Bool
   all_in_described p d inside x = passes p && all_in_any all_in_text d && inside x
 

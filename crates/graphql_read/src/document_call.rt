@@ -17,8 +17,8 @@ use crate::fault::ReadFault;
 use crate::finish::{end_of_text, fault};
 use graphql_names::FileId;
 use indexmap::IndexMap;
-use read_tokens::Source;
-use read_types::{Definition, Document, SourceFile, Stop};
+use read_tokens::TokenCursor;
+use read_types::{Definition, Document, ParseError, SourceFile};
 use std::alloc::{AllocError, Global};
 use std::rc::RcStr;
 
@@ -26,10 +26,10 @@ use std::rc::RcStr;
 #[tactic(auto, unfolding(read_grammar::specs::DocumentReading::document))]
 fn whole_document(
     alloc: Global,
-    tokens: &mut Source<'_>,
+    tokens: &mut TokenCursor<'_>,
     file: FileId,
     nesting: usize,
-) -> Result<Vec<Definition>, Stop>
+) -> Result<Vec<Definition>, ParseError>
     ensures { read.Reads definitions_tree (all_of (reading.document (in_file file) nesting) tokens.old) result tokens.new }
 {
     let found = definitions(alloc, tokens, file, nesting)?;
@@ -50,10 +50,10 @@ fn parse_definitions(
     ensures within { IfErr result (λ e. LiesIn (rc_str_bytes text.now) (fault_view e)) }
     ensures bound { KeepsToBound nesting (rc_str_bytes text.now) result }
 {
-    let mut tokens = Source::new(text);
+    let mut tokens = TokenCursor::new(text);
     match whole_document(alloc, &mut tokens, file, nesting) {
         Ok(found) => Ok(found),
-        // A `Stop` has no place of its own: it is where the cursor has stopped.
+        // A `ParseError` has no place of its own: the place is where the cursor has stopped.
         Err(stop) => Err(fault(&tokens, stop)),
     }
 }

@@ -9,15 +9,15 @@ ghost use Rattle.read_grammar.specs.Reading as read;
 ghost use Rattle.read_types.specs.in_read_operations.Meanings.{in_file};
 
 use graphql_names::FileId;
-use read_tokens::{Source, Terminal};
+use read_tokens::{Terminal, TokenCursor};
 use read_types::{
-    Definition, Stop, next_is, placed_fragment, placed_operation, type_system_definition,
+    Definition, ParseError, next_is, placed_fragment, placed_operation, type_system_definition,
     type_system_extension,
 };
 use std::alloc::Global;
 
 /// Whether an operation may begin with the next token.
-fn begins_operation(tokens: &Source<'_>) -> bool
+fn begins_operation(tokens: &TokenCursor<'_>) -> bool
     ensures { result ≡ kinds.next_is begins.begins_operation (input.next tokens.now) }
 {
     match tokens.peek() {
@@ -28,8 +28,8 @@ fn begins_operation(tokens: &Source<'_>) -> bool
 }
 
 /// Whether a definition of the type system may begin with the next token.
-// A string is a description: in October 2021 operations and fragments have none.
-fn begins_type_system(tokens: &Source<'_>) -> bool
+// A string here is a description: in October 2021, operations and fragments have none.
+fn begins_type_system(tokens: &TokenCursor<'_>) -> bool
     ensures { result ≡ kinds.next_is begins.begins_type_system (input.next tokens.now) }
 {
     match tokens.peek() {
@@ -50,7 +50,7 @@ fn begins_type_system(tokens: &Source<'_>) -> bool
 }
 
 /// Whether a definition may begin with the next token.
-fn begins_definition(tokens: &Source<'_>) -> bool
+fn begins_definition(tokens: &TokenCursor<'_>) -> bool
     ensures { result ≡ kinds.next_is begins.begins_definition (input.next tokens.now) }
 {
     begins_operation(tokens)
@@ -63,10 +63,10 @@ fn begins_definition(tokens: &Source<'_>) -> bool
 #[tactic(auto, unfolding(read_grammar::specs::DocumentReading::definition))]
 fn definition(
     alloc: Global,
-    tokens: &mut Source<'_>,
+    tokens: &mut TokenCursor<'_>,
     file: FileId,
     depth: usize,
-) -> Result<Definition, Stop>
+) -> Result<Definition, ParseError>
     ensures { read.Reads definition_tree (reading.definition (in_file file) depth tokens.old) result tokens.new }
 {
     if begins_operation(tokens) {
@@ -83,20 +83,20 @@ fn definition(
     if next_is(tokens, Terminal::Extend) {
         return type_system_extension(alloc, tokens, file, depth);
     }
-    Err(Stop::Unexpected)
+    Err(ParseError::Unexpected)
 }
 
 /// Document: one or more definitions.
 pub fn definitions(
     alloc: Global,
-    tokens: &mut Source<'_>,
+    tokens: &mut TokenCursor<'_>,
     file: FileId,
     depth: usize,
-) -> Result<Vec<Definition>, Stop>
+) -> Result<Vec<Definition>, ParseError>
     ensures { read.Reads (λ v. map definition_tree v.items) (read.some begins.begins_definition (reading.definition (in_file file) depth) tokens.old) result tokens.new }
 {
     if !begins_definition(tokens) {
-        return Err(Stop::Unexpected);
+        return Err(ParseError::Unexpected);
     }
     let mut found = Vec::new(alloc);
     'turns: while begins_definition(tokens) {

@@ -7,21 +7,21 @@ ghost use Rattle.graphql_read.specs.Calls.{end_of_text};
 ghost use Rattle.graphql_read.specs.ReadFaults.{fault_at, fault_view};
 
 use crate::fault::{ReadFault, SyntaxFault, SyntaxFaultKind};
-use read_tokens::Source;
-use read_types::{Stop, begin};
+use read_tokens::TokenCursor;
+use read_types::{ParseError, begin};
 
 /// Whether the text ends here.
-pub fn end_of_text(tokens: &Source<'_>) -> Result<(), Stop>
+pub fn end_of_text(tokens: &TokenCursor<'_>) -> Result<(), ParseError>
     ensures { Reads (λ x. x) (end_of_text tokens.now) result tokens.now }
 {
     if tokens.peek().is_some() || tokens.is_stuck() {
-        return Err(Stop::Unexpected);
+        return Err(ParseError::Unexpected);
     }
     Ok(())
 }
 
-/// What is wrong with the next token, or with the text where no token is left.
-fn unexpected_kind(tokens: &Source<'_>) -> SyntaxFaultKind
+/// What is wrong with the next token, or with the text if no token is left.
+fn unexpected_kind(tokens: &TokenCursor<'_>) -> SyntaxFaultKind
     ensures { fault_at result (next_offset tokens.now) ≡ unexpected_at tokens.now.ahead tokens.now.ending }
 {
     if tokens.peek().is_some() {
@@ -34,7 +34,7 @@ fn unexpected_kind(tokens: &Source<'_>) -> SyntaxFaultKind
 }
 
 /// The same with its place.
-fn unexpected(tokens: &Source<'_>) -> SyntaxFault
+fn unexpected(tokens: &TokenCursor<'_>) -> SyntaxFault
     ensures { fault_at result.kind result.offset ≡ unexpected_at tokens.now.ahead tokens.now.ending }
 {
     SyntaxFault {
@@ -43,14 +43,14 @@ fn unexpected(tokens: &Source<'_>) -> SyntaxFault
     }
 }
 
-/// The fault, where reading stops.
-pub fn fault(tokens: &Source<'_>, stop: Stop) -> ReadFault
+/// The fault at the point where reading stops.
+pub fn fault(tokens: &TokenCursor<'_>, stop: ParseError) -> ReadFault
     ensures { fault_view result ≡ fault_of stop tokens.now }
 {
     match stop {
-        Stop::Memory => ReadFault::Memory,
-        Stop::Unexpected => ReadFault::Syntax(unexpected(tokens)),
-        Stop::Nesting => ReadFault::Nesting {
+        ParseError::Memory => ReadFault::Memory,
+        ParseError::Unexpected => ReadFault::Syntax(unexpected(tokens)),
+        ParseError::Nesting => ReadFault::Nesting {
             offset: begin(tokens),
         },
     }

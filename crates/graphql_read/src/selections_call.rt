@@ -12,8 +12,8 @@ ghost use Rattle.graphql_read.specs.Sound.{AreSound};
 use crate::fault::ReadFault;
 use crate::finish::{end_of_text, fault};
 use graphql_names::FileId;
-use read_tokens::Source;
-use read_types::{Stop, selections};
+use read_tokens::TokenCursor;
+use read_types::{ParseError, selections};
 use std::alloc::Global;
 use std::rc::RcStr;
 use tree_operations::Selection;
@@ -21,10 +21,10 @@ use tree_operations::Selection;
 /// `Selection+`, and nothing after it.
 fn whole_selections(
     alloc: Global,
-    tokens: &mut Source<'_>,
+    tokens: &mut TokenCursor<'_>,
     file: FileId,
     nesting: usize,
-) -> Result<Vec<Selection>, Stop>
+) -> Result<Vec<Selection>, ParseError>
     ensures { read.Reads selections_tree (all_of (operations.selections (in_file file) nesting) tokens.old) result tokens.new }
 {
     let found = selections(alloc, tokens, file, nesting)?;
@@ -32,7 +32,7 @@ fn whole_selections(
     Ok(found)
 }
 
-/// The selections that are written in a text: one or more, without braces round them, with at most `nesting` brackets
+/// The selections that are written in a text: one or more, without braces around them, with at most `nesting` brackets
 /// open at once.
 pub fn parse_selections(
     alloc: Global,
@@ -47,9 +47,9 @@ pub fn parse_selections(
     ensures within { IfErr result (λ e. LiesIn text.now (fault_view e)) }
     ensures bound { KeepsToBound nesting text.now result }
 {
-    // Copied once, so that names can be parts of it.
+    // The text is copied once, so that names can be parts of the copy.
     let shared = RcStr::from_str(alloc, text)?;
-    let mut tokens = Source::new(&shared);
+    let mut tokens = TokenCursor::new(&shared);
     match whole_selections(alloc, &mut tokens, file, nesting) {
         Ok(found) => Ok(found),
         Err(stop) => Err(fault(&tokens, stop)),

@@ -13,8 +13,8 @@ ghost use Rattle.graphql_read.specs.Sound.{IsSoundType};
 use crate::fault::ReadFault;
 use crate::finish::{end_of_text, fault};
 use graphql_names::FileId;
-use read_tokens::Source;
-use read_types::{Stop, ty};
+use read_tokens::TokenCursor;
+use read_types::{ParseError, ty};
 use std::alloc::Global;
 use std::rc::RcStr;
 use tree_literals::Type;
@@ -22,10 +22,10 @@ use tree_literals::Type;
 /// Type, and nothing after it.
 fn whole_type(
     alloc: Global,
-    tokens: &mut Source<'_>,
+    tokens: &mut TokenCursor<'_>,
     file: FileId,
     nesting: usize,
-) -> Result<Type, Stop>
+) -> Result<Type, ParseError>
     ensures { read.Reads type_tree (all_of (values.type (in_file file) nesting) tokens.old) result tokens.new }
 {
     let found = ty(alloc, tokens, file, nesting)?;
@@ -47,9 +47,9 @@ pub fn parse_type(
     ensures within { IfErr result (λ e. LiesIn text.now (fault_view e)) }
     ensures bound { KeepsToBound nesting text.now result }
 {
-    // Copied once, so that names can be parts of it.
+    // The text is copied once, so that names can be parts of the copy.
     let shared = RcStr::from_str(alloc, text)?;
-    let mut tokens = Source::new(&shared);
+    let mut tokens = TokenCursor::new(&shared);
     match whole_type(alloc, &mut tokens, file, nesting) {
         Ok(found) => Ok(found),
         Err(stop) => Err(fault(&tokens, stop)),

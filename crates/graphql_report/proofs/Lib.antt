@@ -1,3 +1,5 @@
 pub mod Cycles
 pub mod Reporting
 pub mod InOperations
+pub mod Finding
+pub mod Taking

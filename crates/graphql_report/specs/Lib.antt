@@ -1,2 +1,4 @@
 pub mod ToldPlaces
+pub mod FoundPlaces
+pub mod Taken
 pub mod Reports

@@ -12,18 +12,20 @@ use Rattle.report_forms.specs.declared.entry.Related.{Related}
 use Rattle.report_forms.specs.declared.noted.Noted.{Noted}
 use Rattle.report_forms.specs.declared.order.Rank.{Rank}
 use Rattle.report_forms.specs.declared.source.Source.{Source}
+use Rattle.graphql_report.specs.FoundPlaces.{AreFound}
 use Rattle.graphql_report.specs.ToldPlaces.{plain, places_of, AddsOperation}
 
--- these are the places that the data of a fault have beside its own, in order, with their words, and then the operation that they name
+-- the related places: those that the data of a fault have apart from its own, in order, with their words, one that is found in the texts, and the operation
 pub record HasPlaces (sources : List Source) (own : Place) (details : DetailsTree Place (List Place)) (related : List Related) : Type 0 where
   pub noted : List Noted
-  pub from_data : map plain noted ≡ places_of details
+  pub found : List (Place × List ℕ)
+  pub from_data : map plain noted ≡ places_of details ++ found
+  pub are_found : AreFound sources own details found
   pub places : List Related
   pub each : AreRelated sources (others own noted) places
   pub operation : AddsOperation details places related
 
--- the entry is under the name of the fault's text, at its place, with the name of its rule, its message, and the other places that its
--- data have
+-- the entry has the name of the fault's text, its place, the name of its rule, its message, and the other places that its data have
 pub record Tells (sources : List Source) (name : List ℕ) (fault : DetailsAt Place (List Place)) (e : Entry) : Type 0 where
   pub place : IsLocated sources name fault.place e
   pub rule : e.rule.now ≡ details_name fault.details

@@ -1,8 +1,8 @@
 -- The places that the data of a fault have, each with words.
 use Rattle.std.specs.Prelude.{◌≡◌, ℕ, List, [], ◌∷◌, ◌++◌, codes, map, string_bytes, Option, None, Some}
 use Rattle.graphql_names.specs.Placed.{Placed, Place}
-use Rattle.fault_document_data.specs.DocumentBreaches as document
-use Rattle.fault_document_data.specs.DocumentBreaches.{DocumentBreach}
+use Rattle.fault_document_errors.specs.DocumentBreaches as document
+use Rattle.fault_document_errors.specs.DocumentBreaches.{DocumentBreach}
 use Rattle.fault_data.specs.in_rule_definitions.Diagnostics as rule
 use Rattle.fault_data.specs.in_rule_definitions.Diagnostics.{Diagnostic}
 use Rattle.graphql_faults.specs.DetailsTree.{DetailsTree, DocumentBuild, Data}
@@ -83,7 +83,7 @@ abbrev pub more_of : DetailsTree Place (List Place) → List (Place × List ℕ)
 more_of (Data diagnostic) = more_of_data diagnostic
 more_of _ = []
 
--- the name of the operation that a fault is in, where its data have it
+-- the name of the operation that a fault is in, if its data have it
 abbrev pub operation_in : DocumentBreach Place → Option (List ℕ)
 operation_in (document.SubscriptionUsesMultipleFields name) = name
 operation_in (document.SubscriptionUsesIntrospection name field) = name

@@ -5,6 +5,7 @@ ghost use Rattle.graphql_faults.specs.DetailsView.{details_of, details_at};
 ghost use Rattle.graphql_report.specs.Reports.{Tells, HasPlaces};
 
 use crate::fields::fields_of;
+use crate::found::push_found;
 use crate::hints::{Hints, hint_of};
 use crate::operations::push_operation;
 use crate::told_places::places_of;
@@ -14,10 +15,10 @@ use graphql_schema::Schema;
 use report_forms::{Entry, Related, Source, related};
 use std::alloc::{AllocError, Global};
 
-/// The entry of a fault and its place. `path` is the name of the text where it has no place.
+/// The entry of a fault and its place. `path` is the name of the text if it has no place.
 pub(crate) fn entry_of(
     alloc: Global,
-    hints: &mut Hints,
+    hints: &mut Hints<'_>,
     sources: &[Source<'_>],
     schema: Option<&Schema>,
     path: &str,
@@ -29,15 +30,18 @@ pub(crate) fn entry_of(
     let mut entry = Entry::at(alloc, sources, path, *place)?;
     entry.rule = details.name();
     entry.message = details.to_string(alloc)?;
-    entry.related = related_of(alloc, sources, path, *place, details)?;
+    entry.related = related_of(alloc, hints, sources, path, *place, details)?;
     entry.hint = hint_of(alloc, hints, sources, schema, *place, details)?;
     entry.fields = fields_of(alloc, details)?;
     Ok(entry)
 }
 
-/// The places that belong to the fault, without its own, and last the operation that its data name.
+/// The places that belong to the fault, apart from its own: those that its data have, one that is found in the texts, and the
+/// operation that its data name.
+#[tactic(auto, using(crate::proofs::Finding::with_found))]
 fn related_of(
     alloc: Global,
+    hints: &mut Hints<'_>,
     sources: &[Source<'_>],
     path: &str,
     own: Option<SourceSpan>,
@@ -45,7 +49,8 @@ fn related_of(
 ) -> Result<Vec<Related>, AllocError>
     ensures { IfOk result (λ related. HasPlaces sources.now own (details_of details.now) related.items) }
 {
-    let noted = places_of(alloc, details)?;
+    let mut noted = places_of(alloc, details)?;
+    push_found(alloc, &mut noted, hints, sources, own, details)?;
     let mut related = related(alloc, sources, own, &noted)?;
     push_operation(alloc, &mut related, sources, path, details)?;
     Ok(related)

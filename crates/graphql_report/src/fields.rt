@@ -1,7 +1,7 @@
 //! The names and types that a fault has, under the names of its variant's fields.
 
 use fault_data::DiagnosticData;
-use fault_document_data::BuildError;
+use fault_document_errors::BuildError;
 use graphql_faults::Details;
 use graphql_names::Name;
 use report_forms::Field;
@@ -26,7 +26,7 @@ pub(crate) fn fields_of(alloc: Global, details: &Details) -> Result<Vec<Field>, 
     if is_whole { Ok(list) } else { Err(AllocError) }
 }
 
-/// A list of fields, and whether memory was there for each.
+/// A list of fields, and whether memory sufficed for each.
 #[derive(Drop)]
 struct Fields {
     alloc: Global,

@@ -1,89 +1,173 @@
-//! Hints: names that may be meant, and what is there where a text is not read.
+//! Hints: names that may be meant, what is at the place where a text is not read, and what to do.
 
-use crate::stood_there::stood_there;
+use crate::found::named_again;
+use crate::schema_hints::schema_hint;
+use crate::syntax_hints::syntax_hint;
+use crate::text_names::{NameKind, TextName, push_names};
 use fault_data::DiagnosticData;
-use fault_document_data::BuildError;
+use fault_document_errors::BuildError;
 use graphql_faults::Details;
-use graphql_names::{FileId, Name, SourceSpan};
-use graphql_schema::{ExtendedType, Schema};
-use indexmap::IndexMap;
-use read_tokens::{NextToken, Token, TokenKind, next_token};
+use graphql_names::{FileId, SourceSpan};
+use graphql_schema::Schema;
 use report_forms::{Closest, Source, source_at};
-use schema_coordinates::SchemaCoordinate;
+use schema_fold::BuildError as FoldingError;
 use std::alloc::{AllocError, Global};
 
 /// How many faults of a report may have a hint.
 const FAULTS: usize = 1_000;
-/// How many bytes of names are looked through for each byte of the texts: so often at the least all names of the texts.
+/// How many faults of syntax say what the grammar takes there.
+const SYNTAX: usize = 20;
+/// How many bytes of names may be compared for each byte of the texts: so all their names can be compared at least this often.
 const BYTES: usize = 16;
-/// As if the texts were so much longer, for the names of built-in definitions.
+/// Added to the length of the texts, for the names of built-in definitions.
 const BUILT_IN: usize = 1_000;
+/// The built-in scalars (section 3.5) and directives (section 3.13).
+const BUILT_IN_NAMES: &[(NameKind, &str)] = &[
+    (NameKind::Type, "Int"),
+    (NameKind::Type, "Float"),
+    (NameKind::Type, "String"),
+    (NameKind::Type, "Boolean"),
+    (NameKind::Type, "ID"),
+    (NameKind::Directive, "skip"),
+    (NameKind::Directive, "include"),
+    (NameKind::Directive, "deprecated"),
+    (NameKind::Directive, "specifiedBy"),
+];
 
-/// Where a name is in a text that comes after `$`, as that of a variable, or after `fragment`.
-#[derive(Clone, Copy)]
-pub(crate) struct TextName {
-    is_variable: bool,
-    start: usize,
-    end: usize,
-}
-
-/// How many further faults of a report may have a hint, how many bytes of names may be looked through for them, and the names in the
-/// text that was read last for one: faults come text by text, so each text is read once.
+/// How many more faults of a report may have a hint, how many more bytes of names may be compared for them, and the names that
+/// the texts have: those of a document, or those of a schema that is refused.
 ///
 /// So hints take time linear in the texts, however many faults there are.
 #[derive(Drop)]
-pub(crate) struct Hints {
+pub(crate) struct Hints<'a> {
     faults: usize,
+    syntax: usize,
     bytes: usize,
-    file: FileId,
-    names: Vec<TextName>,
+    names: Vec<TextName<'a>>,
+    /// Whether one of the texts has `#import`.
+    has_import: bool,
+    /// Whether one of them defines the schema.
+    has_schema: bool,
 }
 
-impl Hints {
-    /// Those of a report over these texts.
-    pub(crate) fn new(alloc: Global, sources: &[Source<'_>]) -> Hints {
-        let mut length = BUILT_IN;
-        for source in sources {
-            length = length.saturating_add(source.lines.text().len());
-        }
-        Hints {
-            faults: FAULTS,
-            bytes: length.saturating_mul(BYTES),
-            file: FileId::BUILT_IN,
-            names: Vec::new(alloc),
-        }
-    }
-
-    /// The closest of the variables, or of the fragments, that the text of this file names.
-    fn name_in_text(
-        &mut self,
+impl<'a> Hints<'a> {
+    /// The hints of a report over these texts, of which the last is that of the document, if it is of a document.
+    pub(crate) fn new(
         alloc: Global,
-        file: FileId,
-        text: &str,
-        is_variable: bool,
-        given: &Name,
-    ) -> Result<Option<String>, AllocError> {
-        if self.file != file {
-            self.names = names_in(alloc, text)?;
-            self.file = file;
-        }
-        let given = given.as_str();
-        let mut closest = Closest::new(alloc, given);
-        for one in &self.names {
-            if one.is_variable == is_variable
-                && let Some(name) = text.get(one.start..one.end)
-            {
-                closest.see(name);
+        sources: &[Source<'a>],
+        is_of_document: bool,
+    ) -> Result<Hints<'a>, AllocError> {
+        let mut length = BUILT_IN;
+        let mut names = Vec::new(alloc);
+        let (mut has_import, mut has_schema) = (false, false);
+        let mut number = 0u64;
+        for source in sources {
+            let text = source.lines.text();
+            length = length.saturating_add(text.len());
+            number = number.saturating_add(1);
+            if !is_of_document || number == sources.len() as u64 {
+                push_names(&mut names, FileId(number), text)?;
+                has_import = has_import || text.contains("#import");
             }
         }
-        closest.hint(if is_variable { "$" } else { "" }, &mut self.bytes)
+        if !is_of_document {
+            for (kind, name) in BUILT_IN_NAMES {
+                names.push(TextName {
+                    kind: *kind,
+                    name: *name,
+                    of: "",
+                    file: FileId::BUILT_IN,
+                    start: 0,
+                })?;
+            }
+        }
+        for one in &names {
+            has_schema = has_schema || one.kind == NameKind::Schema;
+        }
+        Ok(Hints {
+            faults: FAULTS,
+            syntax: SYNTAX,
+            bytes: length.saturating_mul(BYTES),
+            names,
+            has_import,
+            has_schema,
+        })
+    }
+
+    /// The first place of the name that a fault tells to be there twice, apart from the fault's own place.
+    pub(crate) fn first_named(
+        &mut self,
+        own: SourceSpan,
+        details: &Details,
+    ) -> Option<TextName<'a>> {
+        if self.bytes == 0 {
+            return None;
+        }
+        let (kind, of, name) = named_again(details)?;
+        let mut seen = 0usize;
+        let mut found = None;
+        for one in &self.names {
+            seen = seen.saturating_add(one.name.len());
+            let is_own = one.file == own.file_id
+                && own.offset <= one.start
+                && one.start - own.offset < own.length;
+            if one.kind == kind && one.name == name && (of.is_empty() || one.of == of) && !is_own {
+                found = Some(*one);
+                break;
+            }
+        }
+        self.bytes = self.bytes.saturating_sub(seen);
+        found
+    }
+
+    /// What to do, if the fault and the texts say it.
+    fn what_to_do(
+        &mut self,
+        alloc: Global,
+        files: usize,
+        place: Option<SourceSpan>,
+        details: &Details,
+    ) -> Result<Option<String>, AllocError> {
+        let words = match (details, place) {
+            (Details::Data(DiagnosticData::QueryRootOperationType), _) if self.has_schema =>
+                "`schema { .. }` does not name the query root",
+            (Details::Data(DiagnosticData::QueryRootOperationType), _) => {
+                let noun = if files == 1 { "file" } else { "files" };
+                return Ok(Some(format!(in alloc;
+                    "no type `Query` and no `schema {{ query: .. }}` in {files} {noun}; a schema of several files needs them all"
+                )?));
+            }
+            (Details::SchemaBuild(FoldingError::TypeDefinitionCollision { name }), Some(own)) => {
+                let Some(TextName { of, .. }) = self.first_named(own, details) else {
+                    return Ok(None);
+                };
+                let rest = match of {
+                    "union" => "= ..",
+                    "scalar" => "@..",
+                    _ => "{ .. }",
+                };
+                return Ok(Some(format!(in alloc; "`extend {of} {name} {rest}` adds to it")?));
+            }
+            (Details::Data(DiagnosticData::UndefinedFragment { .. }), _) if self.has_import =>
+                "an `#import` is a comment here: the text must have the fragment itself",
+            (Details::DocumentBuild(BuildError::TypeSystemDefinition), _) =>
+                "this text has type definitions: it is of a schema",
+            (Details::SchemaBuild(FoldingError::ExecutableDefinition), _) =>
+                "operations and fragments go into a document",
+            (Details::Nesting, _) => "the nesting limit can be raised (--nesting)",
+            (Details::RecursionLimitError, Some(_)) => "fields may be nested 128 levels deep",
+            (Details::RecursionLimitError, None) =>
+                "selections may be nested 500 levels deep, those of fragments counted",
+            _ => return Ok(None),
+        };
+        Ok(Some(String::from_str(alloc, words)?))
     }
 }
 
 /// A hint for the fault, if there is one, and faults and bytes are left.
 pub(crate) fn hint_of(
     alloc: Global,
-    hints: &mut Hints,
+    hints: &mut Hints<'_>,
     sources: &[Source<'_>],
     schema: Option<&Schema>,
     place: Option<SourceSpan>,
@@ -93,28 +177,25 @@ pub(crate) fn hint_of(
         return Ok(None);
     }
     hints.faults -= 1;
-    if let Some(span) = place
+    if let Details::Syntax(_) = details
+        && let Some(span) = place
         && let Some(source) = source_at(sources, span)
     {
-        let text = source.lines.text();
-        match details {
-            Details::Syntax(_) => return stood_there(alloc, text, span.offset),
-            Details::Data(DiagnosticData::UndefinedVariable { name }) => return hints.name_in_text(
-                alloc,
-                span.file_id,
-                text,
-                true,
-                name,
-            ),
-            Details::Data(DiagnosticData::UndefinedFragment { name }) => return hints.name_in_text(
-                alloc,
-                span.file_id,
-                text,
-                false,
-                name,
-            ),
-            _ => {}
-        }
+        let tells_forms = hints.syntax > 0;
+        hints.syntax = hints.syntax.saturating_sub(1);
+        return syntax_hint(alloc, source.lines.text(), span, tells_forms);
+    }
+    if let Some(words) = hints.what_to_do(alloc, sources.len(), place, details)? {
+        return Ok(Some(words));
+    }
+    if let Some(words) = near_name(
+        alloc,
+        &hints.names,
+        &mut hints.bytes,
+        schema.is_some(),
+        details,
+    )? {
+        return Ok(Some(words));
     }
     match schema {
         None => Ok(None),
@@ -122,179 +203,56 @@ pub(crate) fn hint_of(
     }
 }
 
-/// A type, a field, a value of an enum, a field of an input object, an argument or a directive.
-fn schema_hint(
+/// The closest of the variables or the fragments of a document, or of the types, the directives or the members of a type.
+fn near_name(
     alloc: Global,
+    names: &[TextName<'_>],
     left: &mut usize,
-    schema: &Schema,
+    is_of_document: bool,
     details: &Details,
 ) -> Result<Option<String>, AllocError> {
-    match details {
-        Details::Data(DiagnosticData::UndefinedDefinition { name: type_name })
-        | Details::DocumentBuild(
-            BuildError::UndefinedTypeInNamedFragmentTypeCondition { type_name }
-            | BuildError::UndefinedTypeInInlineFragmentTypeCondition { type_name },
-        ) => closest_key(alloc, left, &schema.types, type_name, ""),
-        Details::DocumentBuild(
-            BuildError::UndefinedField {
-                type_name,
-                field_name,
-            },
-        ) => member_hint(alloc, left, schema, type_name, field_name),
+    let (kind, of, given) = match details {
+        Details::Data(DiagnosticData::UndefinedVariable { name }) => (NameKind::Variable, "", name),
+        Details::Data(DiagnosticData::UndefinedFragment { name }) => (NameKind::Fragment, "", name),
+        _ if is_of_document => return Ok(None),
+        Details::Data(DiagnosticData::UndefinedDefinition { name })
+        | Details::SchemaBuild(FoldingError::OrphanTypeExtension { name }) => (
+            NameKind::Type,
+            "",
+            name,
+        ),
+        Details::Data(DiagnosticData::UndefinedDirective { name }) => (
+            NameKind::Directive,
+            "",
+            name,
+        ),
         Details::Data(
             DiagnosticData::UndefinedEnumValue {
-                value,
+                value: name,
                 definition,
                 ..
             }
             | DiagnosticData::UndefinedInputValue {
-                value,
+                value: name,
                 definition,
                 ..
             },
-        ) => member_hint(alloc, left, schema, definition, value),
-        Details::Data(
-            DiagnosticData::UndefinedArgument {
-                name,
-                coordinate,
-                ..
-            },
-        ) => argument_hint(alloc, left, schema, coordinate, name),
-        Details::Data(DiagnosticData::UndefinedDirective { name }) => closest_key(
-            alloc,
-            left,
-            &schema.directive_definitions,
-            name,
-            "@",
-        ),
-        _ => Ok(None),
-    }
-}
-
-/// A field, a value or an input field of the type.
-fn member_hint(
-    alloc: Global,
-    left: &mut usize,
-    schema: &Schema,
-    type_name: &Name,
-    given: &Name,
-) -> Result<Option<String>, AllocError> {
-    match schema.type_named(type_name) {
-        Some(ExtendedType::Object(object)) => closest_key(
-            alloc,
-            left,
-            &object.content().fields,
-            given,
-            "",
-        ),
-        Some(ExtendedType::Interface(interface)) => closest_key(
-            alloc,
-            left,
-            &interface.content().fields,
-            given,
-            "",
-        ),
-        Some(ExtendedType::Enum(definition)) => closest_key(
-            alloc,
-            left,
-            &definition.content().values,
-            given,
-            "",
-        ),
-        Some(ExtendedType::InputObject(definition)) => closest_key(
-            alloc,
-            left,
-            &definition.content().fields,
-            given,
-            "",
-        ),
-        _ => Ok(None),
-    }
-}
-
-/// An argument of the field or of the directive.
-fn argument_hint(
-    alloc: Global,
-    left: &mut usize,
-    schema: &Schema,
-    coordinate: &SchemaCoordinate,
-    given: &Name,
-) -> Result<Option<String>, AllocError> {
-    let arguments = match coordinate {
-        SchemaCoordinate::TypeAttribute(field) => match schema.type_field(
-            &field.ty,
-            &field.attribute,
-        ) {
-            Ok(field) => &field.node.content().arguments,
-            Err(_) => return Ok(None),
-        },
-        SchemaCoordinate::Directive(directive) => match schema
-            .directive_definitions
-            .get(&directive.directive)
-        {
-            Some(directive) => &directive.content().arguments,
-            None => return Ok(None),
-        },
+        ) => (NameKind::Member, definition.as_str(), name),
         _ => return Ok(None),
     };
     let given = given.as_str();
     let mut closest = Closest::new(alloc, given);
-    for argument in arguments {
-        let name = argument.content().name.as_str();
-        closest.see(name);
+    for one in names {
+        if one.kind == kind && (of.is_empty() || one.of == of) {
+            let name = one.name;
+            closest.see(name);
+        }
     }
-    closest.hint("", left)
-}
-
-/// One of these names.
-fn closest_key<V>(
-    alloc: Global,
-    left: &mut usize,
-    named: &IndexMap<Name, V>,
-    given: &Name,
-    sign: &str,
-) -> Result<Option<String>, AllocError> {
-    let given = given.as_str();
-    let mut closest = Closest::new(alloc, given);
-    for (name, _) in named.iter() {
-        let name = name.as_str();
-        closest.see(name);
-    }
+    *left = left.saturating_sub(names.len());
+    let sign = match kind {
+        NameKind::Variable => "$",
+        NameKind::Directive => "@",
+        _ => "",
+    };
     closest.hint(sign, left)
-}
-
-/// Where the variables and the fragments are that the text names, in order.
-fn names_in(alloc: Global, text: &str) -> Result<Vec<TextName>, AllocError> {
-    let mut names = Vec::new(alloc);
-    let mut before = "";
-    let mut rest = text;
-    for _ in 0..text.len() {
-        let Some((token, behind)) = first_token(rest) else {
-            break;
-        };
-        let is_variable = before == "$";
-        if matches!(token.kind, TokenKind::Name) && (is_variable || before == "fragment") {
-            let end = text.len().saturating_sub(behind.len());
-            let start = end.saturating_sub(token.text.len());
-            names.push(TextName {
-                is_variable,
-                start,
-                end,
-            })?;
-        }
-        before = token.text;
-        rest = behind;
-    }
-    Ok(names)
-}
-
-/// The first token of a text, and what comes after it.
-pub(crate) fn first_token(text: &str) -> Option<(Token<'_>, &str)> {
-    match next_token(text, 0) {
-        NextToken::Token(token) => {
-            let end = token.offset.saturating_add(token.text.len());
-            Some((token, text.get(end..)?))
-        }
-        NextToken::End | NextToken::NoToken(_) => None,
-    }
 }

@@ -1,16 +1,16 @@
-//! The operation that a fault is in, where its data name it.
+//! The operation that a fault is in, if its data name it.
 
 ghost use Rattle.std.specs.Prelude.{◌≡◌, OnOk, option_map};
 ghost use Rattle.graphql_faults.specs.DetailsView.{details_of};
 ghost use Rattle.graphql_report.specs.ToldPlaces.{operation_of, AddsOperation};
 
-use fault_document_data::BuildError;
+use fault_document_errors::BuildError;
 use graphql_faults::Details;
 use graphql_names::Name;
 use report_forms::{Related, Source, path_at, place_at};
 use std::alloc::{AllocError, Global};
 
-/// Adds the operation that the data of the fault name, at its name, where they name one. `path` is the name of the text where that
+/// Adds the operation that the data of the fault name, at its name, if they name one. `path` is the name of the text if that
 /// has no place.
 #[tactic(auto, using(crate::proofs::InOperations::adds_none, crate::proofs::InOperations::adds_one))]
 pub(crate) fn push_operation(
@@ -38,7 +38,7 @@ pub(crate) fn push_operation(
     Ok(())
 }
 
-/// The name of the operation, where the data have it.
+/// The name of the operation, if the data have it.
 fn operation_of(details: &Details) -> Option<&Name>
     ensures { option_map (λ name. name.now.text) result ≡ operation_of (details_of details.now) }
 {

@@ -37,8 +37,8 @@ impl Model for Report {
 }
 
 impl Report {
-    /// The report of the faults. Text `n` is the `n`-th source; `path` is the name of what has no place. Names that may be meant
-    /// are taken from the schema, if there is one.
+    /// The report of the faults. Text `n` is the `n`-th source; `path` is the name for faults without a place. Names that
+    /// may be meant are taken from the schema, if there is one.
     #[tactic(auto, using(crate::proofs::Reporting::rank_within, crate::proofs::Reporting::entries_more, crate::proofs::Reporting::all_reported))]
     pub fn new(
         alloc: Global,
@@ -51,7 +51,7 @@ impl Report {
     {
         let told = faults.iter().as_slice();
         let ranks = order_of(alloc, told)?;
-        let mut hints = Hints::new(alloc, sources);
+        let mut hints = Hints::new(alloc, sources, schema.is_some())?;
         let mut entries = Vec::new(alloc);
         for rank in &ranks {
             let fault = &told[rank.told];

@@ -8,15 +8,15 @@ ghost use Rattle.graphql_report.specs.ToldPlaces.{plain, taker_words, first_of_d
 ghost use Rattle.schema_coordinates.specs.CoordinateView.{schema_coordinate};
 
 use fault_data::DiagnosticData;
-use fault_document_data::BuildError;
+use fault_document_errors::BuildError;
 use graphql_faults::Details;
 use graphql_names::{Node, SourceSpan};
 use report_forms::Noted;
 use schema_coordinates::SchemaCoordinate;
 use std::alloc::{AllocError, Global};
 
-/// The places that the fault's data have, in the order in which they have them, each with words. Where a fault has no such place, the
-/// first is none.
+/// The places that the fault's data have, in the order in which they have them, each with words. If a fault has no such
+/// place, the first is none.
 pub(crate) fn places_of(alloc: Global, details: &Details) -> Result<Vec<Noted>, AllocError>
     ensures { IfOk result (λ noted. map plain noted.items ≡ places_of (details_of details.now)) }
 {
@@ -151,8 +151,8 @@ fn first_of_data(diagnostic: &DiagnosticData) -> (Option<SourceSpan>, &'static s
     }
 }
 
-/// What is at the place that an argument which is not defined has beside its own: the definition of the field, or where the directive
-/// is used.
+/// What is at the place that an undefined argument has apart from its own: the definition of the field, or the use of the
+/// directive.
 fn taker_words(coordinate: &SchemaCoordinate) -> &'static str
     ensures { result.now ≡ taker_words (schema_coordinate coordinate.now) }
 {

@@ -3,12 +3,13 @@
 use crate::faults_of;
 use graphql_checked::{CheckedSchema, Layout};
 use graphql_report::Report;
-use report_calls::{
-    Request, Stop, Tally, Telling, answer_accepted, answer_refused, answer_unread, read_request,
+use report_cli::{
+    Asked, Request, Stop, Tally, Telling, answer_accepted, answer_refused, answer_wrong,
+    read_request,
 };
 use std::io::{BufRead, BufReader};
 
-/// Answers each line of standard input by a line on standard output, in order.
+/// Answers each line of standard input but blank ones by a line on standard output, in order.
 pub(crate) fn check_batch(
     rt: &HostRuntime,
     telling: &Telling<'_>,
@@ -18,10 +19,14 @@ pub(crate) fn check_batch(
     let Ok(reader) = BufReader::new(rt.alloc(), rt.stdin()) else {
         return Err(Stop::Memory);
     };
+    let mut number = 0usize;
     for line in reader.lines(rt.alloc()) {
-        match read_request(rt, line)? {
-            Some(request) => answer(rt, telling, schema, &request, tally)?,
-            None => answer_unread(rt, tally)?,
+        number = number.saturating_add(1);
+        let asked = read_request(rt, line)?;
+        match &asked {
+            Asked::Document(request) => answer(rt, telling, schema, request, tally)?,
+            Asked::Blank => {}
+            Asked::Wrong { id, why } => answer_wrong(rt, number, id.as_deref(), *why, tally)?,
         }
     }
     Ok(())
@@ -51,13 +56,7 @@ fn answer(
                 "document",
                 text,
             )?;
-            answer_refused(
-                rt,
-                &request.id,
-                report.entries(),
-                telling.settings.max_faults,
-                tally,
-            )
+            answer_refused(rt, telling.settings, &request.id, report.entries(), tally)
         }
     }
 }

@@ -1,11 +1,11 @@
 //! Checks documents over a schema, and tells each fault at its line and column.
 //!
-//! `graphql-report [--format text|short|json|github] [--nesting N] [--max-faults N] --schema FILE [--schema FILE].. [DOCUMENT..]`
-//! checks the schema once, and then each document by itself; `-` is standard input. With `--batch` documents come from standard
-//! input, a JSON object a line.
+//! `graphql-report [--format text|short|json|github] [--nesting N] [--max-faults N] --schema FILE [--schema FILE].. [--quiet]
+//! [DOCUMENT..]` checks the schema once, and then each document by itself; `-` is standard input. With `--batch` documents come from
+//! standard input, a JSON object a line.
 //!
 //! Begin with `check`: `schema_of`, `check_document` and `answer` are the calls of the library. What it takes, prints and counts is
-//! in `report_calls`.
+//! in `report_cli`.
 #![tactic(auto)]
 
 mod batch;
@@ -13,11 +13,12 @@ mod batch;
 use crate::batch::check_batch;
 use graphql_checked::{CheckedSchema, Checker, DiagnosticList, Limits, Refusal};
 use graphql_report::Report;
-use report_calls::{
+use report_cli::{
     Settings, Stop, Tally, Telling, lines_of, read_document, read_files, read_settings, read_words,
     sources_of, tell_end,
 };
 use std::alloc::Global;
+use std::mem::forget;
 use std::process::ExitCode;
 
 /// The schema of the texts, if they are read and every rule on schemas holds.
@@ -47,7 +48,7 @@ fn tell_schema(
     let faults = faults_of(refusal)?;
     let report = Report::new(rt.alloc(), faults, telling.schemas, None, "schema")?;
     tally.add_schema();
-    telling.tell(rt, report.entries(), tally)
+    telling.tell(rt, None, report.entries(), tally)
 }
 
 /// Checks the document in a file, and tells its faults.
@@ -58,13 +59,13 @@ fn check_document(
     path: &str,
     tally: &mut Tally,
 ) -> Result<(), Stop> {
-    let Some(text) = read_document(rt, path, tally)? else {
+    let Some(text) = read_document(rt, telling.settings, path, tally)? else {
         return Ok(());
     };
     match schema.check(&text) {
         Ok(_) => {
             tally.add_accepted();
-            Ok(())
+            telling.tell(rt, Some(path), &[], tally)
         }
         Err(refusal) => {
             let faults = faults_of(&refusal)?;
@@ -77,7 +78,7 @@ fn check_document(
                 &text,
             )?;
             tally.add_refused();
-            telling.tell(rt, report.entries(), tally)
+            telling.tell(rt, Some(path), report.entries(), tally)
         }
     }
 }
@@ -108,7 +109,12 @@ fn check(rt: &HostRuntime, settings: &Settings, tally: &mut Tally) -> Result<(),
         schemas: &sources,
     };
     match schema_of(rt.alloc(), &texts, settings.nesting) {
-        Ok(schema) => check_documents(rt, &telling, &schema, tally),
+        Ok(schema) => {
+            let checked = check_documents(rt, &telling, &schema, tally);
+            // The process ends then, so its memory is not given back part by part.
+            forget(schema);
+            checked
+        }
         Err(refusal) => tell_schema(rt, &telling, &refusal, tally),
     }
 }
@@ -121,7 +127,7 @@ fn status(rt: &HostRuntime, words: &[String]) -> u8 {
     };
     let mut tally = Tally::new(settings.documents.is_empty() && !settings.batch);
     let done = check(rt, &settings, &mut tally);
-    tell_end(rt, tally, done)
+    tell_end(rt, &settings, tally, done)
 }
 
 fn main(rt: HostRuntime) -> ExitCode {

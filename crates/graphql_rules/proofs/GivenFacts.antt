@@ -12,8 +12,8 @@ use Rattle.rule_definitions.specs.Faults.{wrong}
 use Rattle.rule_definitions.specs.Names.{defined_name, argument_name}
 use Rattle.rule_definitions.specs.GivenValues.{Variables}
 use Rattle.rule_definitions.specs.VariableUsage.{IsVariableUsageAllowed}
-use Rattle.rule_definitions.specs.Told.{PlacedFault}
-use Rattle.rule_uses.specs.Steps.{Lists, DisallowedUsage}
+use Rattle.rule_definitions.specs.PlacedFaults.{PlacedFault}
+use Rattle.rule_arguments.specs.GivenArguments.{Lists, DisallowedUsage}
 use Rattle.rule_definitions.proofs.Firsts.{first_is_found}
 use Rattle.graphql_rules.specs.Given.{Each, UsageBreaks}
 

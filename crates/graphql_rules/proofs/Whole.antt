@@ -8,10 +8,10 @@ use Rattle.rule_definitions.specs.Spots.{spot_place}
 use Rattle.rule_definitions.specs.Faults.{SchemaFault}
 use Rattle.rule_definitions.specs.Judged.{Judged, judged}
 use Rattle.rule_definitions.specs.Rules.{InterfacesBreak, SchemaUsesBreak, SchemaRules, extension_places_at}
-use Rattle.rule_definitions.specs.Told.{PlacedFault, Told}
+use Rattle.rule_definitions.specs.PlacedFaults.{PlacedFault, Told}
 use Rattle.rule_definitions.proofs.Lists.{not_in_nil, Contains-first}
 use Rattle.rule_types.specs.TypesBreak.{TypesBreak}
-use Rattle.rule_cycles.specs.Told.{CyclesFail, CyclesTold}
+use Rattle.rule_cycles.specs.SchemaCycles.{CyclesFail, CyclesTold}
 use Rattle.rule_definitions.specs.Room.{most_told, ◌⊕◌}
 use Rattle.rule_definitions.proofs.Room.{room_both, room_first}
 use Rattle.rule_definitions.proofs.Adding.{Gains}

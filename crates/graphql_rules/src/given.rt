@@ -2,16 +2,16 @@
 ghost use Rattle.std.specs.Prelude.{◌≡◌, ◌↔◌, ⊤, List, IfOk, OnOk, OnErr, IsTrue};
 ghost use Rattle.std.specs.Iterator.{DrainsIf};
 ghost use Rattle.tree_directives.specs.Iterators.{CanBeDrained};
-ghost use Rattle.rule_uses.specs.Alone.{ArgumentsBreak};
-ghost use Rattle.rule_uses.specs.Trees.{arguments_of, directives_of};
+ghost use Rattle.rule_arguments.specs.Alone.{ArgumentsBreak};
+ghost use Rattle.rule_arguments.specs.Trees.{arguments_of, directives_of};
 ghost use Rattle.graphql_faults.specs.DetailsView.{diagnostics_of, BeginsAs};
 ghost use Rattle.graphql_rules.specs.Appends.{Appends};
 ghost use Rattle.graphql_rules.specs.Given.{Each, LeadsToDirective, UsesTold, UsageTold};
 
 use graphql_faults::DiagnosticList;
 use graphql_names::Node;
+use rule_arguments::{DefinedVariables, check_arguments_alone, check_directives, usage_fault};
 use rule_cycles::Schema;
-use rule_uses::{DefinedVariables, check_arguments_alone, check_directives, usage_fault};
 use std::alloc::{AllocError, Global};
 use std::ops::Deref;
 use tree_directives::{Argument, Directive, DirectiveLocation, InputValueDefinition};
@@ -48,7 +48,7 @@ pub fn validate_directives<D: Deref<Target = Node<Directive>> + Drop, I: IntoIte
     ensures told { OnOk result (UsesTold I.into_iter_gives I.IntoIter.next_gives D.deref_gives directives schema.entry variables.now location list.old list.new) }
     ensures begins { OnErr result (BeginsAs (diagnostics_of list.old) (diagnostics_of list.new)) }
 {
-    // The rules take a slice, so what the iterator gives is gathered, shared.
+    // The rules take a slice, so the nodes that the iterator gives are collected. They are shared, not copied.
     let nodes = nodes_of(alloc, directives)?;
     let mut faults = Vec::new(alloc);
     let variables = DefinedVariables::new(alloc, variables)?;

@@ -6,7 +6,7 @@
 //! the types that are kept. Where it tells nothing, implementing is a strict order on interfaces, and each input type has a
 //! literal (`rule_schema_laws`).
 //!
-//! The rules are in inner crates side by side: `rule_types`, `rule_cycles`, `rule_uses`, `rule_values`.
+//! The rules are in inner crates side by side: `rule_types`, `rule_cycles`, `rule_arguments`, `rule_values`.
 //! Begin with `schema.rt`.
 #![tactic(auto)]
 
@@ -24,5 +24,5 @@ pub use scalars::BuiltInScalars;
 pub use schema::validate_schema;
 pub use values::value_of_correct_type;
 
-// Of the crates beneath, for those above.
+// Re-exported from the crates below, for those above.
 pub use graphql_faults::{Details, DiagnosticList};

@@ -18,14 +18,14 @@ use tree_directives::{DirectiveDefinition, InputValueDefinition};
 use tree_literals::Type;
 use tree_type_members::FieldDefinition;
 
-/// Whether the name stands inside the reference to a type.
+/// Whether this is the inner name of the reference to a type.
 fn is_inside(name: &str, ty: &Type) -> bool
     ensures { result ≡ is_inside name.now (type_tree ty.now) }
 {
     name == ty.inner_named_type().as_str()
 }
 
-/// Whether it stands inside the type of one of these arguments.
+/// Whether one of these arguments has this inner type.
 // Loops here and below: `any` with a closure costs more to prove.
 fn is_inside_arguments(name: &str, arguments: &[Node<InputValueDefinition>]) -> bool
     ensures { result ≡ is_inside_arguments name.now (map (node_tree input_value_tree) arguments.now) }
@@ -38,7 +38,7 @@ fn is_inside_arguments(name: &str, arguments: &[Node<InputValueDefinition>]) -> 
     false
 }
 
-/// Whether it stands inside the type of one of these fields, or of an argument of one.
+/// Whether one of these fields, or an argument of one, has this inner type.
 fn is_inside_fields(name: &str, fields: &[Component<FieldDefinition>]) -> bool
     ensures { result ≡ list_any (λ f. is_inside_field name.now f.it.it) (map (component_tree field_definition_tree) fields.now) }
 {
@@ -53,7 +53,7 @@ fn is_inside_fields(name: &str, fields: &[Component<FieldDefinition>]) -> bool
     false
 }
 
-/// Whether it stands inside the type of one of these input fields.
+/// Whether one of these input fields has this inner type.
 fn is_inside_inputs(name: &str, fields: &[Component<InputValueDefinition>]) -> bool
     ensures { result ≡ list_any (λ f. is_inside name.now f.it.it.ty.it) (map (component_tree input_value_tree) fields.now) }
 {

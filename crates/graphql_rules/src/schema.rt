@@ -7,7 +7,7 @@ ghost use Rattle.rule_definitions.specs.Distinct.{AreAllDistinct};
 ghost use Rattle.rule_definitions.specs.Judged.{judged};
 ghost use Rattle.rule_definitions.specs.Kept.{validated};
 ghost use Rattle.rule_definitions.specs.Rules.{SchemaRules};
-ghost use Rattle.rule_definitions.specs.Told.{PlacedFault};
+ghost use Rattle.rule_definitions.specs.PlacedFaults.{PlacedFault};
 ghost use Rattle.graphql_faults.specs.DetailsView.{diagnostics_of, BeginsAs};
 ghost use Rattle.rule_schema_laws.specs.Implementing.{ImplementsInOrder};
 ghost use Rattle.graphql_rules.specs.SchemaTold.{TellsSchema, SchemaTold, ValidSchemaMeansSilence, SilenceGivesLiterals};
@@ -15,10 +15,10 @@ ghost use Rattle.graphql_rules.specs.SchemaTold.{TellsSchema, SchemaTold, ValidS
 use crate::kept::kept_types;
 use fault_data::Fault;
 use graphql_faults::DiagnosticList;
+use rule_arguments::{IndexedSchema, SchemaInputs, check_schema_directives};
 use rule_cycles::laws::names_differ;
 use rule_cycles::{Schema, check_cycles};
 use rule_types::{check_interfaces, check_types};
-use rule_uses::{IndexedSchema, SchemaInputs, check_schema_directives};
 use std::alloc::{AllocError, Global};
 
 /// Tells the faults of the rules on schemas (sections 3 and 5), the first 1,000 of them. Then it drops from the types each
@@ -47,7 +47,7 @@ pub fn validate_schema(
     ensures unchanged { OnErr result (schema.new ≡ schema.old) }
     ensures begins { OnErr result (BeginsAs (diagnostics_of list.old) (diagnostics_of list.new)) }
 {
-    // For its contract alone: no two things of one kind have one name, which the rules take for granted.
+    // Called only for its contract: no two things of one kind have the same name, which the rules assume.
     names_differ(schema);
     let faults = schema_faults(alloc, schema)?;
     let types = kept_types(alloc, schema)?;

@@ -6,8 +6,8 @@ ghost use Rattle.graphql_rules.specs.ValueTold.{ValueTold, TypeAccepts};
 
 use graphql_faults::DiagnosticList;
 use graphql_names::Node;
+use rule_arguments::{DefinedVariables, IndexedSchema, check_value};
 use rule_cycles::Schema;
-use rule_uses::{DefinedVariables, IndexedSchema, check_value};
 use std::alloc::{AllocError, Global};
 use tree_literals::{Type, Value};
 use tree_operations::VariableDefinition;

@@ -4,8 +4,8 @@ use Rattle.std.specs.Bool.{Decides}
 use Rattle.graphql_names.specs.Node.{content}
 use Rattle.graphql_names.specs.Placed.{node_tree}
 use Rattle.tree_directives.specs.DirectiveTree.{directive_definition_tree}
-use Rattle.schema_components.proofs.in_values.Decided.{through, pair_decides}
-use Rattle.schema_components.proofs.in_values.DirectiveEquality.{directive_definition_eq-Decides}
+use Rattle.schema_components.proofs.in_operations.Decided.{through, pair_decides}
+use Rattle.schema_components.proofs.in_operations.DirectiveEquality.{directive_definition_eq-Decides}
 use Rattle.schema_components.proofs.NamedEquality.{maps_decide}
 use Rattle.schema_building.specs.in_schema_types.TypeView.{name_text, extended_type}
 use Rattle.schema_building.specs.in_schema_types.Plain.{PlainSchema, plain, plain_type, plain_directive_definition}

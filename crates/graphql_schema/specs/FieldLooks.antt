@@ -13,18 +13,18 @@ use Rattle.graphql_schema.specs.LookUps.{is_composite_kind}
 use Rattle.graphql_schema.specs.LookUps as look_up
 
 module _ (l : Looks) where
-  -- the schema definition names that type as the root of queries
+  -- whether the schema definition names this type as the query root
   abbrev pub is_query_root : List ℕ → Bool
   is_query_root n = option_map_or (λ root. bytes_eq n root) l.definition.query false
 
-  -- the field of that name of a type that stands under the name n: an explicit field comes before a meta-field
+  -- the field named m of the type t, which is listed under the name n: an explicit field comes before a meta-field
   abbrev pub field_on : List ℕ → TypeLooks → List ℕ → Option (FieldDefinitionTree (Unit {0}))
   field_on n t m = option_or (t.field m) (option_map (λ f. unplaced_field_definition f.it) (meta_field_of (is_composite_kind t.kind) (is_composite_kind t.kind && is_query_root n) m))
 
-  -- the field of that name of the type of that name
+  -- the field named m of the type named n
   abbrev pub field_named : List ℕ → List ℕ → Option (FieldDefinitionTree (Unit {0}))
   field_named n m = option_and_then (λ t. field_on n t m) (l.type_named n)
 
--- a schema's fields, places and origins aside, are those of its look-ups
+-- each lookup of a field in a schema gives, without place and origin, what `field_named` gives for the plain schema
 abbrev pub FieldsArePlain : SchemaTree Place → Type 0
 FieldsArePlain s = (n m : List ℕ) → option_map (plain_given unplaced_field_definition) (look_up.field_named s n m) ≡ field_named (looks (plain s)) n m

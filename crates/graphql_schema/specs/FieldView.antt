@@ -1,4 +1,4 @@
--- Private: leads to `LookUps.antt`. What contracts see of a field that is lent.
+-- Private: leads to `LookUps.antt`. What contracts see of a borrowed field.
 use Rattle.std.specs.Prelude.{Option}
 use Rattle.std.specs.Borrow.{Bor}
 use Rattle.std.specs.Option.{option_map}

@@ -13,10 +13,10 @@ use Rattle.graphql_schema.specs.declared.implementers.ImplementersNames.{Impleme
 abbrev pub implementers_tree : Implementers → ImplementersTree
 implementers_tree t = record { objects = map name_text t.objects.keys; interfaces = map name_text t.interfaces.keys }
 
--- what a map has under the name
+-- the implementers that a map has under the name
 abbrev pub implementers_at : {S : Type 0} → IndexMap NameValue Implementers S → NameValue → Option ImplementersTree
 implementers_at m i = option_map implementers_tree (get (same_text name_text) m i)
 
--- the names that an iterator has still to give: of objects, then of interfaces
+-- the names that an iterator has still to yield: those of objects, then those of interfaces
 abbrev pub left_implementers : ImplementersNames → List NameValue
 left_implementers s = iter_rest s.objects ++ iter_rest s.interfaces

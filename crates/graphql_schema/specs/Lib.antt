@@ -20,7 +20,7 @@ pub use Rattle.schema_building.specs.in_schema_types.Plain
 pub use Rattle.schema_building.specs.in_schema_types.Looks
 pub use Rattle.schema_building.specs.in_schema_types.Addresses
 pub use Rattle.schema_building.specs.in_schema_types.Out
-pub use Rattle.schema_building.specs.in_fold.Listed
+pub use Rattle.schema_building.specs.in_fold.NumberedDefinition
 pub use Rattle.schema_building.specs.in_fold.Components
 pub use Rattle.schema_building.specs.in_fold.SchemaFold
 pub use Rattle.schema_building.specs.in_fold.Fold

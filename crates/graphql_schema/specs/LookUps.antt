@@ -1,4 +1,4 @@
--- What look-ups in a schema answer (GraphQL, October 2021, sections 2.5, 3.4.2, 3.7, 3.8, 4.1 and 4.2).
+-- What lookups in a schema return (GraphQL, October 2021, sections 2.5, 3.4.2, 3.7, 3.8, 4.1 and 4.2).
 use Rattle.std.specs.Prelude.{◌≡◌, ℕ, Bool, false, ◌&&◌, ◌||◌, List, map, Option, None, Some, option_and_then, if◌then◌else◌}
 use Rattle.std.specs.Borrow.{Bor}
 use Rattle.std.specs.Option.{option_map, option_map_or, option_or}
@@ -27,55 +27,55 @@ abbrev pub is_composite_kind : TypeKind → Bool
 is_composite_kind k = same_kind k Object || same_kind k Interface || same_kind k Union
 
 module _ (s : SchemaTree Place) where
-  -- the type of that name, if it is of this kind
+  -- the type named n, if it is of kind k
   abbrev pub type_of_kind : TypeKind → List ℕ → Option (SchemaType Place)
   type_of_kind k n = option_and_then (λ t. if same_kind t.kind k then Some t else None) (type_at s n)
 
-  -- the field that the type of that name has under a name; only objects and interfaces have any
+  -- the explicit field named m of the type named n; only objects and interfaces have any
   abbrev pub explicit_field : List ℕ → List ℕ → Option (Given Place (Placed Place (FieldDefinitionTree Place)))
   explicit_field n m = option_and_then (λ t. under m t.fields) (type_at s n)
 
-  -- the schema definition names that type as the root of queries, whatever its kind
+  -- whether the schema definition names this type as the query root, whatever its kind
   abbrev pub is_query_root : List ℕ → Bool
   is_query_root n = option_map_or (λ root. bytes_eq n root.it) (root_at s Query) false
 
-  -- the meta-field of that name of a type that stands under the name n; composite types alone have any (sections 4.1 and 4.2)
+  -- the meta-field named m of the type t, which is listed under the name n; only composite types have any (sections 4.1 and 4.2)
   abbrev pub meta_field_on : List ℕ → SchemaType Place → List ℕ → Option (Given Place (Placed Place (FieldDefinitionTree Place)))
   meta_field_on n t m = option_map by_definition (meta_field_of (is_composite_kind t.kind) (is_composite_kind t.kind && is_query_root n) m)
 
   abbrev pub meta_field : List ℕ → List ℕ → Option (Given Place (Placed Place (FieldDefinitionTree Place)))
   meta_field n m = option_and_then (λ t. meta_field_on n t m) (type_at s n)
 
-  -- the field of that name of a type that stands under the name n: an explicit field comes before a meta-field
+  -- the field named m of the type t, which is listed under the name n: an explicit field comes before a meta-field
   abbrev pub field_on : List ℕ → SchemaType Place → List ℕ → Option (Given Place (Placed Place (FieldDefinitionTree Place)))
   field_on n t m = option_or (under m t.fields) (meta_field_on n t m)
 
-  -- this is what is lent of it
+  -- `lent` is a borrow of that field, `None` if there is no such field
   abbrev pub IsFieldOn : List ℕ → SchemaType Place → List ℕ → Option (Bor (Component FieldDefinition)) → Type 0
   IsFieldOn n t m lent = option_map (λ f. component_tree field_definition_tree f.now) lent ≡ field_on n t m
 
-  -- the field of that name of the type of that name: the explicit one, else the meta-field
+  -- the field named m of the type named n: the explicit one, or else the meta-field
   abbrev pub field_named : List ℕ → List ℕ → Option (Given Place (Placed Place (FieldDefinitionTree Place)))
   field_named n m = option_or (explicit_field n m) (meta_field n m)
 
-  -- this is the field of that name of the type of that name
+  -- f is the field named m of the type named n
   abbrev pub IsFieldNamed : List ℕ → List ℕ → Given Place (Placed Place (FieldDefinitionTree Place)) → Type 0
   IsFieldNamed n m f = field_named n m ≡ Some f
 
-  -- why there is no such field: the type is missing, or it is there, under its name, and has no such field
+  -- why there is no such field: no type is named n; or the error has the type named n, with that name, and it has no field named m
   abbrev pub FieldIsMissing : List ℕ → List ℕ → FieldLookupError → Type 0
   FieldIsMissing n m NoSuchType = type_at s n ≡ None
   FieldIsMissing n m (NoSuchField name type) = (name.now.text ≡ n) × ((type_at s n ≡ Some (extended_type type.now)) × (field_named n m ≡ None))
 
-  -- the type lists the name among its interfaces; only objects and interfaces list any
+  -- whether the type lists the name among its interfaces; only objects and interfaces list any
   abbrev pub implements : SchemaType Place → List ℕ → Bool
   implements t i = is_among i (map given_name t.interfaces)
 
-  -- what is named t is a member of the union n, or names the interface n among its interfaces (sections 3.7 and 3.8)
+  -- whether t is the name of a member of the union n, or of a type that lists the interface n among its interfaces (sections 3.7 and 3.8)
   abbrev pub is_subtype : List ℕ → List ℕ → Bool
   is_subtype n t = option_map_or (λ a. (same_kind a.kind Union && is_among t (map given_name a.members))
       || (same_kind a.kind Interface && option_map_or (λ b. implements b n) (type_at s t) false)) (type_at s n) false
 
-  -- the kind of the type inside a reference to one, if that type is there
+  -- whether the type named inside a type reference exists and its kind passes the test
   abbrev pub inner_kind_is : (TypeKind → Bool) → TypeTree Place → Bool
   inner_kind_is test ty = option_map_or (λ t. test t.kind) (type_at s (inner_name ty).it) false

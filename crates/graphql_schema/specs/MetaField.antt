@@ -1,4 +1,4 @@
--- A meta-field as a component of a type: the definition gives it, and no extension.
+-- A meta-field as a component of a type: its origin is the type's definition, not an extension.
 use Rattle.std.specs.Prelude.{None}
 use Rattle.graphql_names.specs.Placed.{Place}
 use Rattle.schema_components.specs.Given.{Given}

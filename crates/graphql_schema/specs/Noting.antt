@@ -1,4 +1,4 @@
--- Private: leads to `implementers_in`. Implementers that are noted one after another.
+-- Private: leads to `implementers_in`. Implementers, noted one at a time.
 use Rattle.std.specs.Prelude.{ℕ, Bool, List, [], ◌∷◌, ◌++◌, map, Option, None, Some, unwrap_or, fold, if◌then◌else◌}
 use Rattle.std.specs.List.{flat_map}
 use Rattle.std.specs.Str.{bytes_eq}
@@ -9,7 +9,7 @@ use Rattle.schema_building.specs.in_schema_types.SchemaTree.{SchemaType, SchemaT
 use Rattle.schema_building.specs.in_schema_types.declared.type_kind.TypeKind.TheVariants.{Object}
 use Rattle.graphql_schema.specs.Implementers.{ImplementersTree}
 
--- a type, an object or an interface, names an interface
+-- one name in an `implements` list: the interface, whether the type with the list is an object, and the name of that type
 pub record Naming : Type 0 where
   pub interface : List ℕ
   pub is_object : Bool
@@ -21,25 +21,25 @@ nobody = record { objects = []; interfaces = [] }
 abbrev pub with_name : List ℕ → List (List ℕ) → List (List ℕ)
 with_name n ns = if is_among n ns then ns else ns ++ n ∷ []
 
--- one type more
+-- the implementers of an interface, with one more type
 abbrev pub and_type : Bool → List ℕ → ImplementersTree → ImplementersTree
 and_type is_object n t = if is_object then record t { objects = with_name n t.objects } else record t { interfaces = with_name n t.interfaces }
 
--- what stands under the interface i, one naming more
+-- the implementers of the interface i after the naming x, given those before it
 abbrev pub and_naming : List ℕ → Option ImplementersTree → Naming → Option ImplementersTree
 and_naming i o x = if bytes_eq x.interface i then Some (and_type x.is_object x.type (unwrap_or o nobody)) else o
 
--- those that name the interface i, if any does
+-- the implementers of the interface i in these namings; `None` if there are none
 abbrev pub noted_in : List Naming → List ℕ → Option ImplementersTree
 noted_in xs i = fold (and_naming i) None xs
 
 abbrev pub naming : Bool → List ℕ → Given Place (Text Place) → Naming
 naming is_object type g = record { interface = given_name g; is_object = is_object; type = type }
 
--- the interfaces that a type names, in order; only objects and interfaces name any
+-- the namings of one type: the interfaces that it lists, in order; only objects and interfaces list any
 abbrev pub namings_of : List ℕ × SchemaType Place → List Naming
 namings_of e = map (naming (same_kind e.1.kind Object) e.0) e.1.interfaces
 
--- all of a schema's, in the order of its types
+-- the namings of all types of a schema, in the order of the types
 abbrev pub namings : SchemaTree Place → List Naming
 namings s = flat_map namings_of s.types

@@ -8,10 +8,10 @@ use Rattle.schema_building.specs.in_schema_types.declared.type_kind.TypeKind.The
 use Rattle.graphql_schema.specs.Implementers.{ImplementersTree, implementers_in}
 use Rattle.graphql_schema.specs.LookUps.{type_of_kind, is_subtype}
 
--- the type is one of these objects and interfaces
+-- whether the type t is one of these objects and interfaces, if there are any
 abbrev pub is_implementer : Option ImplementersTree → List ℕ → Bool
 is_implementer o t = option_map_or (λ x. is_among t x.objects || is_among t x.interfaces) o false
 
--- what is a subtype of an interface i is one of those that stand under i, and no other is
+-- a type is a subtype of an interface i exactly when it is one of the implementers of i
 abbrev pub SubtypesAreImplementers : SchemaTree Place → Type 0
 SubtypesAreImplementers s = (i t : List ℕ) → is_some (type_of_kind s Interface i) ≡ true → is_subtype s i t ≡ is_implementer (implementers_in s i) t

@@ -6,7 +6,7 @@ ghost use Rattle.schema_building.specs.in_built_in.Table.{built_in_definitions};
 ghost use Rattle.schema_building.specs.in_fold.BuildErrors.{FoldingRules};
 ghost use Rattle.schema_building.specs.in_fold.FaultView.{faults_of};
 ghost use Rattle.schema_building.specs.in_fold.Fold.{fold};
-ghost use Rattle.schema_building.specs.in_fold.Listed.{definitions_of};
+ghost use Rattle.schema_building.specs.in_fold.NumberedDefinition.{definitions_of};
 ghost use Rattle.schema_building.specs.in_fold.ListedView.{listed_view};
 ghost use Rattle.schema_building.specs.in_fold_index.Index.{IsIndexOf};
 ghost use Rattle.schema_building.specs.Building.{plain_settings, with_document, counted, folded, FailsIn, lent_names, IsAddRefusal, IsBuildRefusal};
@@ -27,9 +27,9 @@ use schema_fold_lists::{BuildError, fold_list};
 use schema_writing::Document;
 use std::alloc::{AllocError, Global};
 
-/// Takes the definitions of documents, and builds one schema of them all. What is built in comes first.
+/// Takes the definitions of documents, and builds one schema from all of them. What is built in comes first.
 ///
-/// Contracts see it by `builder_value` alone: the definitions that were added, in order, with the number of the first
+/// Contracts see it only as `builder_value`: the definitions that were added, in order, with the number of the first
 /// extension, the sources, the settings, and whether memory or numbers ran out.
 #[derive(Drop)]
 pub struct SchemaBuilder {
@@ -38,7 +38,7 @@ pub struct SchemaBuilder {
 }
 
 impl SchemaBuilder {
-    /// A builder of no definitions, which counts extensions from 1. It takes no memory.
+    /// A builder without definitions, which counts extensions from 1. It takes no memory.
     pub fn new(alloc: Global) -> SchemaBuilder
         ensures { builder_value result ≡ record { first = 1; texts = []; sources = []; settings = plain_settings; failed = false } }
     {
@@ -48,7 +48,7 @@ impl SchemaBuilder {
         }
     }
 
-    /// A builder of no definitions, which takes the numbers of extensions from `extensions`. It takes no memory.
+    /// A builder without definitions, which takes the numbers of extensions from `extensions`. It takes no memory.
     pub fn with_extensions(alloc: Global, extensions: Extensions) -> SchemaBuilder
         ensures { builder_value result ≡ record { first = extensions; texts = []; sources = []; settings = plain_settings; failed = false } }
     {
@@ -69,7 +69,7 @@ impl SchemaBuilder {
         }
     }
 
-    /// Makes it pass over definitions of built-in types.
+    /// Makes it ignore definitions of built-in types.
     pub fn ignore_builtin_redefinitions(self) -> SchemaBuilder
         ensures { builder_value result ≡ record (builder_value self) { settings = record (builder_value self).settings { ignores = true } } }
     {
@@ -132,7 +132,7 @@ impl Schema {
         }
     }
 
-    /// A builder of no definitions. It takes no memory.
+    /// A builder without definitions. It takes no memory.
     pub fn builder(alloc: Global) -> SchemaBuilder
         ensures { builder_value result ≡ record { first = 1; texts = []; sources = []; settings = plain_settings; failed = false } }
     {

@@ -1,4 +1,4 @@
-//! Things of one kind stand under different names, as in every map and set.
+//! Things of one kind are under different names, as in every map and set.
 ghost use Rattle.schema_building.specs.in_schema_types.TypeView.{extended_type};
 ghost use Rattle.graphql_schema.specs.SchemaOf.{schema_tree};
 ghost use Rattle.schema_building.specs.in_schema_types.Distinct.{ArePartsDistinct, AreEachDistinct, AreAllDistinct};
@@ -6,7 +6,7 @@ ghost use Rattle.schema_building.specs.in_schema_types.Distinct.{ArePartsDistinc
 use crate::schema::Schema;
 use schema_writing::ExtendedType;
 
-/// No two types, directive definitions, or parts of a type of one kind have one name. It says nothing else.
+/// No two types, directive definitions, or parts of one kind of a type have the same name. It says nothing else.
 pub fn names_differ(schema: &Schema)
     ensures { AreAllDistinct (schema_tree schema.now) }
 {
@@ -16,7 +16,7 @@ pub fn names_differ(schema: &Schema)
     each_differ(schema);
 }
 
-/// No two parts of a type of one kind have one name, whichever type it is.
+/// In no type do two parts of one kind have the same name.
 fn each_differ(schema: &Schema)
     ensures { AreEachDistinct schema.now.types.entries }
 {
@@ -25,7 +25,7 @@ fn each_differ(schema: &Schema)
     }
 }
 
-/// No two parts of a type of one kind have one name.
+/// No two parts of one kind of a type have the same name.
 fn parts_differ(ty: &ExtendedType)
     ensures { ArePartsDistinct (extended_type ty.now) }
 {

@@ -15,21 +15,32 @@ use crate::schema::Schema;
 use graphql_names::Name;
 use schema_components::Component;
 use schema_writing::ExtendedType;
+use std::fmt;
+use thiserror::Error;
 use tree_type_members::FieldDefinition;
 
 /// Why a type has no field of a name.
-#[derive(Clone, Copy)]
+#[derive(Clone, Copy, Error)]
 pub enum FieldLookupError<'schema> {
-    /// The type is not there.
+    /// There is no such type.
+    #[error("there is no such type")]
     NoSuchType,
     /// The type, here with its name, has no such field.
+    #[error("the type has no such field")]
     NoSuchField(&'schema Name, &'schema ExtendedType),
 }
 
+/// The text of `Display`.
+impl fmt::Debug for FieldLookupError<'_> {
+    fn fmt<W: fmt::Write>(&self, f: &mut fmt::Formatter<W>) -> fmt::Result {
+        fmt::Display::fmt(self, f)
+    }
+}
+
 impl Schema {
-    /// The field of that name of the type of that name. The type's definition or an extension of it gives the field, or
+    /// The field `field_name` of the type `type_name`. The type's definition or an extension of it gives the field, or
     /// else it is a meta-field: `__typename` of an object, an interface or a union, and `__schema` and `__type` of the
-    /// root of queries, if that is one of these (sections 2.5, 4.1 and 4.2).
+    /// query root, if that is one of these (sections 2.5, 4.1 and 4.2).
     pub fn type_field(
         &self,
         type_name: &Name,
@@ -47,8 +58,8 @@ impl Schema {
         }
     }
 
-    /// The field of that name of a type, which the schema has under the name `type_name`: its own, or else the meta-field.
-    /// It is that of [`Schema::type_field`], without another lookup of the type.
+    /// The field of that name of a type, which the schema has under the name `type_name`: an explicit one, or else the
+    /// meta-field. It is the one that [`Schema::type_field`] returns, without another lookup of the type.
     pub fn field_on<'schema>(
         &'schema self,
         type_name: &Name,
@@ -62,7 +73,7 @@ impl Schema {
             ExtendedType::Object(_) | ExtendedType::Interface(_) | ExtendedType::Union(_)
         );
         match field_of(ty, name) {
-            // A field of the type's own comes first, also if its name is reserved, which a rule tells.
+            // An explicit field comes first, even if its name is reserved: a rule tells that.
             Some(field) => Some(field),
             None => self.meta_field(is_composite, type_name, name),
         }
@@ -77,7 +88,7 @@ impl Schema {
     ) -> Option<&Component<FieldDefinition>>
         ensures { lent_field result ≡ option_map by_definition (meta_field_of is_composite (is_composite && is_query_root (schema_tree self.now) type_name.now.text) name.now.text) }
     {
-        // names of types are compared last: they may be long
+        // type names are compared last: they may be long
         match name.as_str() {
             "__typename" if is_composite => Some(&self.meta_fields.typename),
             "__schema" if is_composite && self.is_query_root(type_name) => {
@@ -90,7 +101,7 @@ impl Schema {
         }
     }
 
-    /// Whether the schema definition names that type as the root of queries.
+    /// Whether the schema definition names that type as the query root.
     fn is_query_root(&self, type_name: &Name) -> bool
         ensures { result ≡ is_query_root (schema_tree self.now) type_name.now.text }
     {

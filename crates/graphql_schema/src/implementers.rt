@@ -27,7 +27,7 @@ pub struct Implementers {
 }
 
 impl Implementers {
-    /// Nobody.
+    /// No implementers.
     fn new(alloc: Global) -> Implementers
         ensures { implementers_tree result ≡ nobody }
     {
@@ -50,7 +50,7 @@ impl Implementers {
         Ok(())
     }
 
-    /// All of them: the objects, then the interfaces.
+    /// All implementers: the objects, then the interfaces.
     pub fn iter(&self) -> ImplementersNames<'_>
         ensures { left_implementers result ≡ self.now.objects.keys ++ self.now.interfaces.keys }
     {
@@ -84,7 +84,7 @@ impl<'a> Iterator for ImplementersNames<'a> {
 }
 
 impl Schema {
-    /// Under the name of each interface that a type names, the objects and interfaces that name it (section 3.7), each once,
+    /// Under the name of each interface that a type lists, the objects and interfaces that list it (section 3.7), each once,
     /// in the order of the schema.
     pub fn implementers_map(
         &self,
@@ -100,7 +100,7 @@ impl Schema {
     }
 }
 
-/// Notes the interfaces that a type names.
+/// Notes the interfaces that a type lists.
 fn note_type(
     alloc: Global,
     noted: &mut IndexMap<Name, Implementers>,
@@ -117,7 +117,7 @@ fn note_type(
     Ok(())
 }
 
-/// Notes that the type names the interface.
+/// Notes that the type lists the interface.
 fn note_name(
     alloc: Global,
     noted: &mut IndexMap<Name, Implementers>,

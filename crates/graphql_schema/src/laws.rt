@@ -1,6 +1,6 @@
-//! What equality of schemas means: exactly that they are the same apart from places, origins, sources and order. And the
-//! subtypes of an interface are its implementers; what fields a type has is a fact of the schema without places; and no
-//! two things of one kind have one name.
+//! What equality of schemas means: exactly that they are the same apart from places, origins, sources and order. Also:
+//! the subtypes of an interface are its implementers, which fields a type has depends only on the schema without places,
+//! and no two things of one kind have the same name.
 ghost use Rattle.std.specs.Prelude.{◌≡◌, ◌↔◌, IsTrue};
 ghost use Rattle.schema_building.specs.in_schema_types.Plain.{plain};
 ghost use Rattle.graphql_schema.specs.SchemaOf.{schema_tree};

@@ -1,7 +1,8 @@
 //! Schemas: lookup in the types, directive definitions and roots that definitions and extensions give.
 //!
-//! For the layer above: contracts see a schema as one tree (`specs/SchemaOf.antt`), each lookup answers by its entries
-//! (`specs/LookUps.antt`), and `==` decides whether two schemas are the same without places, origins and order.
+//! For the layer above: contracts see a schema as one tree (`specs/SchemaOf.antt`), the result of each lookup is stated
+//! by its entries (`specs/LookUps.antt`), and `==` decides whether two schemas are the same without places, origins and
+//! order.
 //!
 //! A builder gives the fold of the definitions that were added, with each way in which a folding rule is broken
 //! (`builder.rt`), and `to_ast` gives the definitions that are written of a schema.
@@ -37,4 +38,4 @@ pub use schema_writing::{
     ScalarType, SchemaDefinition, TypeKind, UnionType,
 };
 
-// Of the crates beneath, for those above.
+// Of the crates below, for the crates above.

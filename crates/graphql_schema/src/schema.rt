@@ -14,7 +14,7 @@ use tree_operations::OperationType;
 
 /// A schema (section 3): its schema definition, and its directive definitions and types under their names, in order;
 /// and the texts that it was read from, by the numbers of their files. It holds the definitions of the meta-fields too,
-/// which are the same in each schema. Equality ignores these, the texts, places, origins and the order of what has names.
+/// which are the same in each schema. Equality ignores these, the texts, places, origins and the order of what is named.
 #[derive_where(PartialEq, Eq)]
 pub struct Schema {
     #[derive_where(skip)]

@@ -12,7 +12,7 @@ use schema_components::ComponentName;
 use schema_writing::ExtendedType;
 
 impl Schema {
-    /// Whether `maybe_subtype` is a member of the union `abstract_type`, or an object or interface that names the
+    /// Whether `maybe_subtype` is a member of the union `abstract_type`, or an object or interface that lists the
     /// interface `abstract_type`.
     pub fn is_subtype(&self, abstract_type: &Name, maybe_subtype: &Name) -> bool
         ensures { result ≡ is_subtype (schema_tree self.now) abstract_type.now.text maybe_subtype.now.text }
@@ -31,7 +31,7 @@ impl Schema {
     }
 }
 
-/// The interfaces that an object or an interface names; no other type names any.
+/// The interfaces that an object or an interface lists; no other type lists any.
 pub(crate) fn interfaces_of(ty: &ExtendedType) -> &[ComponentName]
     ensures { map component_name_tree result.now ≡ (extended_type ty.now).interfaces }
 {

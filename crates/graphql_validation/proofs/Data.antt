@@ -4,15 +4,15 @@ use Rattle.std.proofs.lemmas.Bool.{cases_lt}
 use Rattle.std.proofs.lemmas.List.Elements.{Contains-append_left, Contains-append_right, Contains-append_cases}
 use Rattle.graphql_names.specs.Placed.{Place}
 use Rattle.rule_definitions.proofs.Lists.{not_in_nil}
-use Rattle.document_meaning.specs.MeantTree.{MeantOperation, MeantFragment, MeantDocument}
+use Rattle.spec_document.specs.MeantTree.{MeantOperation, MeantFragment, MeantDocument}
 use Rattle.rule_definitions.specs.Room.{most_told, ◌⊕◌}
 use Rattle.rule_definitions.proofs.Room.{room_both, room_first}
-use Rattle.rule_definitions.specs.Told.{PlacedFault}
+use Rattle.rule_definitions.specs.PlacedFaults.{PlacedFault}
 use Rattle.rule_document_definitions.specs.Fragments.{ReachesItself, UnusedFragmentAt, RecursiveFragmentDefinitionAt}
 use Rattle.rule_document_definitions.specs.Reached.{AtOperation}
-use Rattle.rule_document_definitions.specs.Told.{places_alone}
+use Rattle.rule_document_definitions.specs.PlacedDocumentFaults.{places_alone}
 use Rattle.rule_fragments.specs.Used.{IsUsed, AreUsed}
-use Rattle.rule_fragments.specs.Told.{Answers}
+use Rattle.rule_fragments.specs.FragmentCycles.{Answers}
 use Rattle.rule_fragments.specs.UnlessFull.{IsFull, HasAll, AddsUnlessFull}
 use Rattle.rule_fragments.proofs.UnlessFull.{first_tells, adds_first, adds_by}
 use Rattle.graphql_validation.specs.Operations.{ReachesNamed, NotesNames, FragmentsTold, DataFails, DataTold}

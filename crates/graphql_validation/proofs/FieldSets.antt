@@ -4,16 +4,16 @@ use Rattle.std.specs.Prelude.{IsTrue}
 use Rattle.graphql_names.specs.Placed.{Place}
 use Rattle.schema_types.specs.SchemaTree.{SchemaTree}
 use Rattle.rule_definitions.proofs.Lists.{not_in_nil, Contains-first}
-use Rattle.document_meaning.specs.MeantTree.{MeantSet, MeantOperation, MeantFragment, MeantDocument}
-use Rattle.document_meaning.specs.Unplaced.{unplaced_set}
+use Rattle.spec_document.specs.MeantTree.{MeantSet, MeantOperation, MeantFragment, MeantDocument}
+use Rattle.spec_document.specs.Unplaced.{unplaced_set}
 use Rattle.rule_definitions.specs.Room.{most_told}
-use Rattle.rule_definitions.specs.Told.{PlacedFault}
+use Rattle.rule_definitions.specs.PlacedFaults.{PlacedFault}
 use Rattle.rule_document_definitions.specs.DocumentFaults.{Broken, OfData, OfDocument, OfLimit}
 use Rattle.rule_document_definitions.specs.FieldSets.{document_of_set}
 use Rattle.rule_document_definitions.specs.Limits.{PassesPathBound}
 use Rattle.rule_document_definitions.specs.Reached.{ReachesFragment}
 use Rattle.rule_document_definitions.specs.Verdict.{FieldSetWithinBounds}
-use Rattle.rule_document_definitions.specs.Told.{PlacedDocumentFault, SetRulesFail, IsValidFieldSet}
+use Rattle.rule_document_definitions.specs.PlacedDocumentFaults.{PlacedDocumentFault, SetRulesFail, IsValidFieldSet}
 use Rattle.rule_document_definitions.proofs.Verdicts.{set_valid_where_nothing_is_told, set_within_bounds_where_nothing_is_told}
 use Rattle.rule_fragments.specs.Used.{AreUnderOwnNames}
 use Rattle.rule_fragments.specs.Nested.{NestsTooDeep}
@@ -24,8 +24,8 @@ use Rattle.rule_selections.proofs.Typing.{field_set_reaches_typed}
 use Rattle.rule_selections.specs.in_typing.Meanings.{meanings}
 use Rattle.schema_types.specs.Plain.{plain}
 use Rattle.graphql_validation.specs.Operations.{DataFails, TellsData, AllUnder, OperationFails, all_told, AreReachesTyped}
-use Rattle.graphql_validation.specs.Steps.{TellsUnder}
-use Rattle.graphql_validation.specs.Told.{IsTypedSet, SetRulesOrBoundFail, TellsFieldSet, FieldSetTold, Telling}
+use Rattle.graphql_validation.specs.OperationChecks.{TellsUnder}
+use Rattle.graphql_validation.specs.ValidationFaults.{IsTypedSet, SetRulesOrBoundFail, TellsFieldSet, FieldSetTold, Telling}
 use Rattle.graphql_validation.proofs.FirstTold.{parts_told}
 use Rattle.graphql_validation.proofs.Telling.{data_in, limit_in, told_cases, bound_is}
 use Rattle.graphql_validation.proofs.Ordered.{beside_under}

@@ -5,18 +5,18 @@ use Rattle.std.proofs.lemmas.Bool.{cases_lt, lt-ltb, le-ltb}
 use Rattle.std.proofs.lemmas.List.{length-append, length-map}
 use Rattle.std.proofs.lemmas.List.Elements.{filter-append}
 use Rattle.graphql_names.specs.Placed.{Place}
-use Rattle.rule_definitions.specs.Told.{PlacedFault}
+use Rattle.rule_definitions.specs.PlacedFaults.{PlacedFault}
 use Rattle.rule_definitions.specs.Room.{most_told}
 use Rattle.rule_definitions.proofs.Room.{room_first, room_silent}
 use Rattle.rule_document_definitions.specs.DocumentFaults.{Broken, OfData, OfDocument, OfLimit}
-use Rattle.rule_document_definitions.specs.Told.{PlacedDocumentFault}
+use Rattle.rule_document_definitions.specs.PlacedDocumentFaults.{PlacedDocumentFault}
 use Rattle.rule_merging.specs.in_faults.DetailsTree.{of_document}
 use Rattle.rule_merging.proofs.Behind.{nothing_told}
 use Rattle.rule_fragments.specs.UnlessFull.{IsFull}
 use Rattle.rule_fragments.proofs.UnlessFull.{first_full}
 use Rattle.graphql_validation.specs.Lasts.{fault_lasts, broken_lasts, lasts}
 use Rattle.graphql_validation.specs.Operations.{bound_told, all_told}
-use Rattle.graphql_validation.specs.Told.{Telling}
+use Rattle.graphql_validation.specs.ValidationFaults.{Telling}
 use Rattle.graphql_validation.proofs.Filtered.{filter_view}
 
 -- ---- where none of the first are told, nothing is to be told

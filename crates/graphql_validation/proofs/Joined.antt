@@ -2,12 +2,12 @@
 use Rattle.std.proofs.Common.{◌≡◌, ◌↔◌, ◌⊎◌, ◌≤◌, inl, inr, List, [], ◌∷◌, ◌++◌, length, refl, sym, subst, Contains, arith}
 use Rattle.std.proofs.lemmas.List.{length-append}
 use Rattle.std.proofs.lemmas.List.Elements.{Contains-append_left, Contains-append_cases}
-use Rattle.fault_lists.specs.Added.{BeginsAs}
+use Rattle.graphql_faults.specs.Added.{BeginsAs}
 use Rattle.rule_definitions.proofs.Lists.{not_in_nil, only}
 use Rattle.rule_definitions.specs.Room.{most_told, ◌⊕◌}
 use Rattle.rule_fragments.specs.UnlessFull.{IsFull, TellsUnlessFull, HasAll}
 use Rattle.rule_fragments.proofs.UnlessFull.{adds_first, adds_exactly}
-use Rattle.graphql_validation.specs.Steps.{Joins}
+use Rattle.graphql_validation.specs.OperationChecks.{Joins}
 
 module _ {A : Type 0} where
   -- what was there is there

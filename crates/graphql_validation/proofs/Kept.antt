@@ -2,15 +2,15 @@
 use Rattle.std.proofs.Common.{◌≡◌, ◌⊎◌, inl, inr, true, false, refl, ap, sym, ◌∙◌, true≢false}
 use Rattle.graphql_names.specs.Placed.{Place}
 use Rattle.schema_types.specs.SchemaTree.{SchemaTree}
-use Rattle.document_meaning.specs.MeantTree.{MeantDocument}
+use Rattle.spec_document.specs.MeantTree.{MeantDocument}
 use Rattle.rule_definitions.specs.Judged.{judged}
-use Rattle.rule_definitions.specs.Told.{PlacedFault}
+use Rattle.rule_definitions.specs.PlacedFaults.{PlacedFault}
 use Rattle.rule_document_definitions.specs.DocumentFaults.{Broken, OfData, OfDocument}
 use Rattle.rule_document_definitions.specs.DocumentRules.{DataBreaks, DeferredBreaks}
 use Rattle.rule_document_definitions.specs.Limits.{SpreadBoundFails}
 use Rattle.rule_document_definitions.specs.Reached.{AtOperation}
 use Rattle.rule_document_definitions.specs.Subscriptions.{SubscriptionBreaks}
-use Rattle.rule_document_definitions.specs.Told.{PlacedDocumentFault, places_in, places_alone}
+use Rattle.rule_document_definitions.specs.PlacedDocumentFaults.{PlacedDocumentFault, places_in, places_alone}
 use Rattle.graphql_validation.specs.LastingRules.{LastingOrCycleFails}
 use Rattle.graphql_validation.specs.Lasts.{fault_lasts, broken_lasts, lasts}
 

@@ -4,21 +4,21 @@ use Rattle.std.proofs.lemmas.List.{length-map, take-map}
 use Rattle.std.proofs.lemmas.List.Elements.{Contains-append_right}
 use Rattle.std.specs.Option.{option_map}
 use Rattle.graphql_names.specs.Placed.{Place}
-use Rattle.document_meaning.specs.MeantTree.{MeantDocument}
+use Rattle.spec_document.specs.MeantTree.{MeantDocument}
 use Rattle.rule_cycle_search.proofs.Lists.{not_in_nil, Contains-cons, Contains-first, slice_get-map}
 use Rattle.rule_definitions.specs.Judged.{Judged}
 use Rattle.rule_definitions.specs.Room.{most_told}
 use Rattle.rule_document_definitions.specs.DocumentFaults.{OfData, OfDocument, OfLimit}
 use Rattle.rule_document_definitions.specs.Reached.{AtOperation}
-use Rattle.rule_document_definitions.specs.Told.{PlacedDocumentFault}
+use Rattle.rule_document_definitions.specs.PlacedDocumentFaults.{PlacedDocumentFault}
 use Rattle.rule_merging.specs.in_faults.DetailsTree as tree
 use Rattle.rule_merging.specs.in_faults.DetailsTree.{DetailsTree, DetailsAt, of_document}
 use Rattle.rule_merging.specs.in_faults.DetailsView.{details_at}
 use Rattle.rule_merging.specs.in_faults.declared.details.Details.{Details}
 use Rattle.rule_merging.specs.Merged.{MergingFailsAt, DocumentMergingTold}
-use Rattle.fault_lists.specs.Once.{EachOnce, KeepsOnce}
-use Rattle.fault_lists.specs.ToldOfDocument.{told_of_document, placed_details, told_at}
-use Rattle.graphql_validation.specs.Told.{Telling}
+use Rattle.graphql_faults.specs.Once.{EachOnce, KeepsOnce}
+use Rattle.graphql_faults.specs.ToldOfDocument.{told_of_document, placed_details, told_at}
+use Rattle.graphql_validation.specs.ValidationFaults.{Telling}
 use Rattle.graphql_validation.proofs.FirstTold.{none_told}
 
 -- ---- lists that are seen otherwise

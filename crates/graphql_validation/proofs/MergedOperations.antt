@@ -4,15 +4,15 @@ use Rattle.std.proofs.lemmas.List.{map-append}
 use Rattle.std.proofs.lemmas.List.Elements.{Contains-append_cases}
 use Rattle.std.specs.Prelude.{IsTrue}
 use Rattle.graphql_names.specs.Placed.{Place}
-use Rattle.document_meaning.specs.MeantTree.{MeantOperation, MeantDocument}
+use Rattle.spec_document.specs.MeantTree.{MeantOperation, MeantDocument}
 use Rattle.rule_definitions.proofs.Lists.{not_in_nil, only, Contains-first}
 use Rattle.rule_definitions.specs.Judged.{Judged}
 use Rattle.rule_document_definitions.specs.Merging.{FieldsMerge}
 use Rattle.rule_document_definitions.specs.Selected.{operations}
-use Rattle.rule_document_definitions.specs.Told.{PlacedDocumentFault}
+use Rattle.rule_document_definitions.specs.PlacedDocumentFaults.{PlacedDocumentFault}
 use Rattle.rule_merging.specs.in_faults.DetailsTree.{of_document}
 use Rattle.rule_merging.specs.Merged.{MergingTold, DocumentMergingTold}
-use Rattle.graphql_validation.specs.Told.{Telling}
+use Rattle.graphql_validation.specs.ValidationFaults.{Telling}
 use Rattle.rule_merging.proofs.Behind.{nothing_told, told_nothing}
 
 told_behind : (old mid new : Telling) (a b : List PlacedDocumentFault) → mid ≡ old ++ map of_document a → new ≡ mid ++ map of_document b → new ≡ old ++ map of_document (a ++ b)

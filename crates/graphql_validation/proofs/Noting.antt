@@ -7,12 +7,12 @@ use Rattle.std.proofs.lemmas.Slice.Eq.{bytes_eq-Decides}
 use Rattle.indexmap.specs.IndexSet.{insert_key}
 use Rattle.graphql_names.specs.Placed.{Place}
 use Rattle.rule_definitions.proofs.Lists.{not_in_nil, Contains-cons, Contains-first}
-use Rattle.document_meaning.specs.MeantTree.{MeantOperation, MeantFragment, MeantDocument}
+use Rattle.spec_document.specs.MeantTree.{MeantOperation, MeantFragment, MeantDocument}
 use Rattle.rule_definitions.specs.Words.{AtSomeIndex}
 use Rattle.rule_document_definitions.specs.Selected.{own}
 use Rattle.rule_definitions.proofs.Listing.{index_append}
-use Rattle.rule_fragments.specs.in_ground.Reach.{Member, IsReach}
-use Rattle.rule_fragments.proofs.in_ground.Bridge.{from_map, to_map}
+use Rattle.rule_fragments.specs.in_reach.Reach.{Member, IsReach}
+use Rattle.rule_fragments.proofs.in_reach.Bridge.{from_map, to_map}
 use Rattle.graphql_validation.specs.Operations.{ReachesNamed, NotesNames, with_fragments}
 
 -- one name more

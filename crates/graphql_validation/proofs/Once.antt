@@ -6,13 +6,13 @@ use Rattle.graphql_names.specs.Placed.{Place}
 use Rattle.rule_cycle_search.specs.Paths.{HasNoRepeat}
 use Rattle.rule_cycle_search.proofs.Lists.{not_in_nil, Contains-cons, Contains-first, index_found, index_given}
 use Rattle.rule_definitions.specs.Room.{most_told}
-use Rattle.rule_definitions.specs.Told.{PlacedFault}
+use Rattle.rule_definitions.specs.PlacedFaults.{PlacedFault}
 use Rattle.rule_document_definitions.specs.DocumentFaults.{Broken, OfData, OfDocument, OfLimit}
-use Rattle.rule_document_definitions.specs.Told.{PlacedDocumentFault}
-use Rattle.fault_lists.specs.Once.{EachOnce, KeepsOnce}
+use Rattle.rule_document_definitions.specs.PlacedDocumentFaults.{PlacedDocumentFault}
+use Rattle.graphql_faults.specs.Once.{EachOnce, KeepsOnce}
 use Rattle.rule_fragments.specs.UnlessFull.{IsFull, TellsUnlessFull, HasAll}
 use Rattle.rule_fragments.proofs.UnlessFull.{first_full}
-use Rattle.document_meaning.specs.MeantTree.{MeantOperation, MeantDocument}
+use Rattle.spec_document.specs.MeantTree.{MeantOperation, MeantDocument}
 use Rattle.graphql_validation.specs.Operations.{DataFails, TellsData, DataTold, bound_told, all_told}
 use Rattle.graphql_validation.proofs.FirstTold.{full_faults, full_breaches}
 

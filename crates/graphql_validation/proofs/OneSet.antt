@@ -10,7 +10,7 @@ use Rattle.document_typed_operations.specs.TypedDocument.{TypedOperation, TypedO
 use Rattle.document_typed_operations.specs.declared.document.ExecutableDocument.{ExecutableDocument}
 use Rattle.document_typed_operations.specs.declared.operation.Fragment.{Fragment}
 use Rattle.document_typed_operations.specs.declared.operation.Operation.{Operation}
-use Rattle.document_meaning.specs.MeantTree.{MeantDocument, meant_of_set}
+use Rattle.spec_document.specs.MeantTree.{MeantDocument, meant_of_set}
 use Rattle.rule_fragments.specs.in_typed_operations.DocumentView.{meant_document, document_meant}
 use Rattle.rule_document_definitions.specs.FieldSets.{document_of_set}
 use Rattle.graphql_validation.specs.Operations.{query_on}

@@ -2,14 +2,14 @@
 use Rattle.std.proofs.Common.{◌↔◌, ◌⊎◌, inl, inr}
 use Rattle.graphql_names.specs.Placed.{Place}
 use Rattle.schema_types.specs.SchemaTree.{SchemaTree}
-use Rattle.document_meaning.specs.MeantTree.{MeantOperation, MeantFragment, MeantDocument}
+use Rattle.spec_document.specs.MeantTree.{MeantOperation, MeantFragment, MeantDocument}
 use Rattle.rule_definitions.specs.Judged.{judged}
-use Rattle.rule_definitions.specs.Told.{PlacedFault}
+use Rattle.rule_definitions.specs.PlacedFaults.{PlacedFault}
 use Rattle.rule_document_definitions.specs.Fragments.{ReachesItself, UndefinedFragmentAt, RecursiveFragmentDefinitionAt, InvalidFragmentTargetAt, InvalidFragmentSpreadAt}
 use Rattle.rule_document_definitions.specs.Reached.{ReachesFragment}
 use Rattle.rule_document_definitions.specs.Selections.{SelectionsBreak}
 use Rattle.rule_document_definitions.specs.Standalone.{GivenInBreaks}
-use Rattle.rule_document_definitions.specs.Told.{place_or_built_in, places_in, places_alone}
+use Rattle.rule_document_definitions.specs.PlacedDocumentFaults.{place_or_built_in, places_in, places_alone}
 use Rattle.rule_variables.specs.Parts.{VariablesBreakAlone, VariablesBreakUnder}
 use Rattle.graphql_validation.specs.Operations.{OperationFailsAlone, OperationFails, AllAlone, AllUnder}
 

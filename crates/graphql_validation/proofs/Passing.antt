@@ -7,7 +7,7 @@ use Rattle.tree_directives.specs.declared.directive_location.DirectiveLocation.{
 use Rattle.tree_directives.specs.declared.directive_location.DirectiveLocation.TheVariants as location
 use Rattle.schema_types.specs.Addresses.{Address}
 use Rattle.schema_types.specs.Looks.{TypeLooks}
-use Rattle.document_meaning.specs.MeantTree.{MeantOperation, MeantDocument}
+use Rattle.spec_document.specs.MeantTree.{MeantOperation, MeantDocument}
 use Rattle.rule_definitions.specs.Faults.{FaultAt}
 use Rattle.rule_definitions.specs.GivenValues.{Wanted, Variables}
 use Rattle.rule_definitions.specs.Judged.{Judged}

@@ -1,6 +1,6 @@
 -- What breaks a rule that stays broken breaks a rule on documents; and a document is part of itself.
 use Rattle.std.proofs.Common.{◌⊎◌, refl, inl, inr}
-use Rattle.document_meaning.specs.MeantTree.{MeantSelection, MeantField, MeantSpread, MeantInline, MeantSet, meant_set, MeantSelections, no_meant, meant_then, MeantOperation, MeantDocument}
+use Rattle.spec_document.specs.MeantTree.{MeantSelection, MeantField, MeantSpread, MeantInline, MeantSet, meant_set, MeantSelections, no_meant, meant_then, MeantOperation, MeantDocument}
 use Rattle.rule_definitions.specs.Faults.{FaultAt}
 use Rattle.rule_definitions.specs.Judged.{Judged}
 use Rattle.rule_document_definitions.specs.Places.{Places}

@@ -13,18 +13,18 @@ use Rattle.schema_types.specs.Plain.{plain}
 use Rattle.document_typed_selections.specs.TypedTree.{typed_set_tree}
 use Rattle.document_typed_operations.specs.declared.operation.Fragment.{Fragment}
 use Rattle.document_typed_operations.specs.declared.operation.Operation.{Operation}
-use Rattle.document_meaning.specs.MeantTree.{MeantOperation, MeantFragment, MeantDocument}
+use Rattle.spec_document.specs.MeantTree.{MeantOperation, MeantFragment, MeantDocument}
 use Rattle.rule_fragments.specs.in_typed_operations.DocumentView.{operation_meant}
 use Rattle.rule_selections.specs.in_typing.Meanings.{meanings}
 use Rattle.rule_definitions.specs.Judged.{judged}
-use Rattle.rule_definitions.specs.Told.{PlacedFault}
+use Rattle.rule_definitions.specs.PlacedFaults.{PlacedFault}
 use Rattle.rule_document_definitions.specs.Fragments.{UndefinedFragmentAt, InvalidFragmentTargetAt, InvalidFragmentSpreadAt}
 use Rattle.rule_document_definitions.specs.Selected.{InOperation, operation_name}
 use Rattle.rule_document_definitions.specs.Selections.{SelectionsBreak}
-use Rattle.rule_document_definitions.specs.Told.{place_or_built_in, places_in}
-use Rattle.rule_fragments.specs.in_ground.Reach.{IsReachOf, meant_fragments}
-use Rattle.rule_fragments.specs.in_ground.declared.lists.Reach.{Reach}
-use Rattle.rule_fragments.proofs.in_ground.OfDocuments.{ReachesFrom}
+use Rattle.rule_document_definitions.specs.PlacedDocumentFaults.{place_or_built_in, places_in}
+use Rattle.rule_fragments.specs.in_reach.Reach.{IsReachOf, meant_fragments}
+use Rattle.rule_fragments.specs.in_reach.declared.lists.Reach.{Reach}
+use Rattle.rule_fragments.proofs.in_reach.OfDocuments.{ReachesFrom}
 use Rattle.rule_selections.specs.Typed.{ReachesTyped}
 use Rattle.rule_selections.specs.Settled.{Terms, StandInWith}
 use Rattle.rule_selections.proofs.Instead.{reaches_typed}

@@ -3,12 +3,12 @@ use Rattle.std.proofs.Common.{◌≡◌, inl, inr, Bool, true, false, List, ◌+
 use Rattle.std.specs.List.{filter}
 use Rattle.graphql_names.specs.Placed.{Place}
 use Rattle.schema_types.specs.SchemaTree.{SchemaTree}
-use Rattle.document_meaning.specs.MeantTree.{MeantDocument}
+use Rattle.spec_document.specs.MeantTree.{MeantDocument}
 use Rattle.rule_definitions.specs.Judged.{judged}
 use Rattle.rule_definitions.specs.Room.{most_told}
-use Rattle.rule_definitions.specs.Told.{PlacedFault}
+use Rattle.rule_definitions.specs.PlacedFaults.{PlacedFault}
 use Rattle.rule_document_definitions.specs.DocumentFaults.{Broken, OfData, OfDocument, OfLimit}
-use Rattle.rule_document_definitions.specs.Told.{PlacedDocumentFault, places_in}
+use Rattle.rule_document_definitions.specs.PlacedDocumentFaults.{PlacedDocumentFault, places_in}
 use Rattle.graphql_validation.specs.LastingRules.{LastingDataBreaks, LastingFails, LastingOrCycleFails}
 use Rattle.graphql_validation.specs.Lasts.{fault_lasts, broken_lasts, lasts}
 use Rattle.graphql_validation.proofs.Filtered.{filtered, passing}
@@ -16,8 +16,8 @@ use Rattle.graphql_validation.proofs.Passing.{data_passes, defer_passes, subscri
 use Rattle.graphql_validation.proofs.Kept.{data_right, broken_right}
 use Rattle.graphql_validation.proofs.Reasons.{of_variables}
 use Rattle.graphql_validation.specs.Operations.{DataFails, TellsData, AllUnder, OperationFails, all_told}
-use Rattle.graphql_validation.specs.Steps.{TellsUnder}
-use Rattle.graphql_validation.specs.Told.{Telling}
+use Rattle.graphql_validation.specs.OperationChecks.{TellsUnder}
+use Rattle.graphql_validation.specs.ValidationFaults.{Telling}
 use Rattle.rule_fragments.specs.Documents.{SomeBreaks, BreachesTold}
 use Rattle.rule_fragments.specs.UnlessFull.{HasAll}
 use Rattle.rule_fragments.proofs.UnlessFull.{of_first, first_tells}

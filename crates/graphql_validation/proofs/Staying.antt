@@ -5,8 +5,8 @@ use Rattle.graphql_names.specs.Placed.{Placed}
 use Rattle.tree_directives.specs.DirectiveQueries.{directive_has_name}
 use Rattle.tree_directives.specs.declared.directive_location.DirectiveLocation.TheVariants as location
 use Rattle.schema_types.specs.Addresses.{TypeAt}
-use Rattle.document_meaning.specs.MeantTree.{MeantSelection, MeantSet, MeantOperation, MeantFragment, MeantDocument}
-use Rattle.fault_document_data.specs.DocumentBreaches.{SubscriptionUsesConditionalSelection, DeferOnRootMutationOrSubscriptionField, DeferInSubscriptionMustBeConditional}
+use Rattle.spec_document.specs.MeantTree.{MeantSelection, MeantSet, MeantOperation, MeantFragment, MeantDocument}
+use Rattle.fault_document_errors.specs.DocumentBreaches.{SubscriptionUsesConditionalSelection, DeferOnRootMutationOrSubscriptionField, DeferInSubscriptionMustBeConditional}
 use Rattle.rule_cycle_search.specs.Paths.{Leads}
 use Rattle.rule_definitions.specs.Diagnostics.{SpreadTree, RecursiveFragmentDefinition, InvalidFragmentTarget, InvalidFragmentSpread}
 use Rattle.rule_definitions.specs.Words.{Present, AtSomeIndex}

@@ -4,15 +4,15 @@ use Rattle.std.proofs.lemmas.List.{map-append}
 use Rattle.std.specs.Prelude.{IsTrue}
 use Rattle.std.proofs.lemmas.List.Elements.{Contains-append_left, Contains-append_right, Contains-append_cases}
 use Rattle.graphql_names.specs.Placed.{Place}
-use Rattle.rule_definitions.specs.Told.{PlacedFault}
+use Rattle.rule_definitions.specs.PlacedFaults.{PlacedFault}
 use Rattle.rule_merging.specs.in_faults.DetailsTree.{of_rule, of_document}
 use Rattle.rule_document_definitions.specs.DocumentFaults.{Broken, OfData, OfDocument, OfLimit}
-use Rattle.rule_document_definitions.specs.Told.{PlacedDocumentFault}
+use Rattle.rule_document_definitions.specs.PlacedDocumentFaults.{PlacedDocumentFault}
 use Rattle.rule_definitions.proofs.Lists.{not_in_nil, only, Contains-first}
-use Rattle.rule_fragments.proofs.in_ground.Bridge.{from_map, to_map}
+use Rattle.rule_fragments.proofs.in_reach.Bridge.{from_map, to_map}
 use Rattle.rule_merging.proofs.Behind.{breaches_told}
 use Rattle.graphql_validation.specs.Operations.{bound_told, all_told}
-use Rattle.graphql_validation.specs.Told.{Telling}
+use Rattle.graphql_validation.specs.ValidationFaults.{Telling}
 
 data_told : (faults : List PlacedFault) → map of_document (map OfData faults) ≡ map of_rule faults
 data_told [] = refl

@@ -3,17 +3,17 @@ use Rattle.std.proofs.Common.{◌≡◌, inl, inr, Bool, List, [], ◌∷◌, �
 use Rattle.std.specs.Prelude.{IsTrue}
 use Rattle.graphql_names.specs.Placed.{Place}
 use Rattle.rule_definitions.proofs.Lists.{not_in_nil, Contains-first}
-use Rattle.document_meaning.specs.MeantTree.{MeantFragment, MeantDocument}
-use Rattle.document_meaning.specs.Unplaced.{unplaced_document}
+use Rattle.spec_document.specs.MeantTree.{MeantFragment, MeantDocument}
+use Rattle.spec_document.specs.Unplaced.{unplaced_document}
 use Rattle.rule_definitions.specs.Room.{most_told}
-use Rattle.rule_definitions.specs.Told.{PlacedFault}
+use Rattle.rule_definitions.specs.PlacedFaults.{PlacedFault}
 use Rattle.rule_document_definitions.specs.DocumentFaults.{Broken, OfData, OfDocument, OfLimit}
 use Rattle.rule_document_definitions.specs.DocumentRules.{DeferredBreaks}
 use Rattle.rule_document_definitions.specs.Fragments.{ReachesItself}
 use Rattle.rule_document_definitions.specs.Limits.{PassesPathBound}
 use Rattle.rule_document_definitions.specs.Verdict.{WithinBounds}
 use Rattle.rule_document_definitions.specs.Named.{FragmentsFoundByName}
-use Rattle.rule_document_definitions.specs.Told.{PlacedDocumentFault, DocumentFailsAlone, IsValidAlone}
+use Rattle.rule_document_definitions.specs.PlacedDocumentFaults.{PlacedDocumentFault, DocumentFailsAlone, IsValidAlone}
 use Rattle.rule_document_definitions.proofs.Verdicts.{valid_alone_where_nothing_is_told, within_bounds_where_nothing_is_told}
 use Rattle.rule_fragments.specs.Documents.{DeferredTold}
 use Rattle.rule_fragments.specs.UnlessFull.{HasAll}
@@ -26,7 +26,7 @@ use Rattle.graphql_validation.specs.Operations.{DataFails, TellsData, DataTold, 
 use Rattle.graphql_validation.proofs.Telling.{data_in, broken_in, limit_in, told_cases, bound_is}
 use Rattle.graphql_validation.proofs.FirstTold.{parts_told}
 use Rattle.graphql_validation.proofs.Ordered.{beside_alone}
-use Rattle.graphql_validation.specs.Told.{FailsAloneBesideCycles, AnswersFragment, RuleOrBoundFailsAlone, TellsAlone, AloneTold, Telling}
+use Rattle.graphql_validation.specs.ValidationFaults.{FailsAloneBesideCycles, AnswersFragment, RuleOrBoundFailsAlone, TellsAlone, AloneTold, Telling}
 
 module _ (d : MeantDocument Place) where
   module _ (faults : List PlacedFault) (breaches : List (Broken Place)) (is_passed : Bool) where

@@ -4,12 +4,12 @@ use Rattle.std.specs.Prelude.{IsTrue}
 use Rattle.graphql_names.specs.Placed.{Place}
 use Rattle.schema_types.specs.SchemaTree.{SchemaTree}
 use Rattle.schema_types.specs.Plain.{plain}
-use Rattle.document_meaning.specs.MeantTree.{MeantOperation, MeantFragment, MeantDocument}
-use Rattle.document_meaning.specs.Unplaced.{unplaced_document}
+use Rattle.spec_document.specs.MeantTree.{MeantOperation, MeantFragment, MeantDocument}
+use Rattle.spec_document.specs.Unplaced.{unplaced_document}
 use Rattle.rule_definitions.proofs.Lists.{not_in_nil, Contains-first}
 use Rattle.rule_definitions.specs.Judged.{judged}
 use Rattle.rule_definitions.specs.Room.{most_told}
-use Rattle.rule_definitions.specs.Told.{PlacedFault}
+use Rattle.rule_definitions.specs.PlacedFaults.{PlacedFault}
 use Rattle.rule_document_definitions.specs.DocumentFaults.{Broken, OfData, OfDocument, OfLimit}
 use Rattle.rule_document_definitions.specs.Fragments.{ReachesItself}
 use Rattle.rule_document_definitions.specs.Limits.{PassesPathBound}
@@ -17,7 +17,7 @@ use Rattle.rule_document_definitions.specs.Merging.{FieldsMerge}
 use Rattle.rule_document_definitions.specs.Named.{FragmentsFoundByName}
 use Rattle.rule_document_definitions.specs.Reached.{AtOperation}
 use Rattle.rule_document_definitions.specs.Selected.{operations}
-use Rattle.rule_document_definitions.specs.Told.{PlacedDocumentFault, DocumentFails, DocumentMergingFails, IsValidDocument}
+use Rattle.rule_document_definitions.specs.PlacedDocumentFaults.{PlacedDocumentFault, DocumentFails, DocumentMergingFails, IsValidDocument}
 use Rattle.rule_document_definitions.specs.Verdict.{WithinBounds}
 use Rattle.rule_document_definitions.proofs.MergingFacts.{merging_breaks_nothing}
 use Rattle.rule_document_definitions.proofs.Verdicts.{valid_where_nothing_is_told, within_bounds_where_nothing_is_told}
@@ -30,14 +30,14 @@ use Rattle.rule_merging.specs.Merged.{MergingFailsAt}
 use Rattle.rule_merging.specs.in_faults.DetailsTree.{of_document}
 use Rattle.rule_merging.proofs.Behind.{told_nothing}
 use Rattle.graphql_validation.specs.Operations.{AreReachesTyped, DataFails, TellsData, AllUnder, OperationFails, all_told}
-use Rattle.graphql_validation.specs.Steps.{TellsUnder}
+use Rattle.graphql_validation.specs.OperationChecks.{TellsUnder}
 use Rattle.rule_fragments.specs.Documents.{SomeBreaks, BreachesTold}
 use Rattle.rule_fragments.proofs.UnlessFull.{of_first, first_tells, tells_none}
-use Rattle.graphql_validation.specs.Told.{AnswersFragment, Telling}
+use Rattle.graphql_validation.specs.ValidationFaults.{AnswersFragment, Telling}
 use Rattle.graphql_validation.specs.TellsDocument.{IsTypedUnder, FailsBesides, FailsBesideMerging, FailsInMerging, SomeFails, TellsDocument, DocumentTold}
 use Rattle.graphql_validation.proofs.FirstTold.{parts_told}
 use Rattle.graphql_validation.proofs.Ordered.{beside_under}
-use Rattle.fault_lists.specs.Once.{KeepsOnce}
+use Rattle.graphql_faults.specs.Once.{KeepsOnce}
 use Rattle.graphql_validation.proofs.Once.{all_once_told}
 use Rattle.graphql_validation.proofs.Telling.{data_in, broken_in, limit_in, told_cases, bound_is}
 
@@ -137,7 +137,7 @@ module _ (s : SchemaTree Place) (d : MeantDocument Place) where
 
   in_merging : (f : PlacedDocumentFault) → AtOperation d (λ o. MergingFailsAt (judged s) d o f) → FailsInMerging s d f
   in_merging (OfData f) at = absurd at.1.1
-  in_merging (OfDocument b) at = inl at
+  in_merging (OfDocument b) (o, (among, (breaks, later))) = inl (o, (among, breaks))
   in_merging (OfLimit place) (o, (among, (passes, is))) = inr (o, (among, (passes, λ i. OfLimit (is i))))
 
   module _ (old new : Telling) (all : List PlacedDocumentFault) (is : new ≡ old ++ map of_document (take most_told all))

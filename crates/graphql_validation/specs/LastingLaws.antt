@@ -1,16 +1,16 @@
 -- What breaks a rule that stays broken.
 use Rattle.graphql_names.specs.Placed.{Place}
 use Rattle.schema_types.specs.SchemaTree.{SchemaTree}
-use Rattle.document_meaning.specs.MeantTree.{MeantDocument}
-use Rattle.rule_document_definitions.specs.Told.{PlacedDocumentFault, DocumentFails}
+use Rattle.spec_document.specs.MeantTree.{MeantDocument}
+use Rattle.rule_document_definitions.specs.PlacedDocumentFaults.{PlacedDocumentFault, DocumentFails}
 use Rattle.graphql_validation.specs.Parts.{IsPartOf}
 use Rattle.graphql_validation.specs.LastingRules.{LastingOrCycleFails}
 
--- what breaks such a rule in a document breaks it in every document that has all that the document has
+-- what breaks such a rule in a document breaks it in every document that has all that the first one has
 abbrev pub LastingFaultsStay : Type 0
 LastingFaultsStay = (s : SchemaTree Place) (d e : MeantDocument Place) (fault : PlacedDocumentFault) → IsPartOf d e → LastingOrCycleFails s d fault → LastingOrCycleFails s e fault
 
--- and is a fault of a rule on documents
+-- what breaks such a rule is a fault of a rule on documents
 abbrev pub LastingFaultsAreFaults : Type 0
 LastingFaultsAreFaults = (s : SchemaTree Place) (d : MeantDocument Place) (fault : PlacedDocumentFault) → LastingOrCycleFails s d fault → DocumentFails s d fault
 

@@ -1,10 +1,10 @@
--- Which faults are of rules that stay broken, by their variants: what they are is in `LastingFails`.
+-- Which faults are of rules that stay broken, by their variants: what these rules are is in `LastingFails`.
 use Rattle.std.specs.Prelude.{Bool, true, false}
-use Rattle.fault_document_data.specs.DocumentBreaches.{DocumentBreach, SubscriptionUsesIntrospection, SubscriptionUsesConditionalSelection, DeferOnRootMutationOrSubscriptionField, DeferInSubscriptionMustBeConditional}
+use Rattle.fault_document_errors.specs.DocumentBreaches.{DocumentBreach, SubscriptionUsesIntrospection, SubscriptionUsesConditionalSelection, DeferOnRootMutationOrSubscriptionField, DeferInSubscriptionMustBeConditional}
 use Rattle.rule_definitions.specs.Diagnostics.{Diagnostic, UnusedVariable, MissingSubselection, UndefinedFragment, UnusedFragment, DeeplyNestedType}
 use Rattle.rule_definitions.specs.Faults.{FaultAt}
 use Rattle.rule_document_definitions.specs.DocumentFaults.{Broken, OfData, OfDocument, OfLimit}
-use Rattle.rule_document_definitions.specs.Told.{PlacedDocumentFault}
+use Rattle.rule_document_definitions.specs.PlacedDocumentFaults.{PlacedDocumentFault}
 
 module _ {P E : Type 0} where
   abbrev pub data_lasts : Diagnostic P E → Bool
@@ -29,7 +29,7 @@ module _ {P : Type 0} where
   abbrev pub broken_lasts : Broken P → Bool
   broken_lasts fault = breach_lasts fault.it
 
--- whether a fault lasts, among those of documents
+-- whether a fault of a document lasts
 abbrev pub lasts : PlacedDocumentFault → Bool
 lasts (OfData fault) = fault_lasts fault
 lasts (OfDocument fault) = broken_lasts fault

@@ -1,9 +1,9 @@
--- When a document is part of another: all that it has is there, in it or at any depth of it, and more may be.
+-- When a document is part of another: the other has all that it has, at any depth, and may have more.
 use Rattle.std.specs.Prelude.{◌≡◌, ℕ, List, Contains, Some, ◌⊎◌}
-use Rattle.document_meaning.specs.MeantTree.{MeantSelection, MeantField, MeantSpread, MeantInline, MeantSet, meant_set, MeantSelections, no_meant, meant_then, MeantOperation, MeantFragment, MeantDocument}
+use Rattle.spec_document.specs.MeantTree.{MeantSelection, MeantField, MeantSpread, MeantInline, MeantSet, meant_set, MeantSelections, no_meant, meant_then, MeantOperation, MeantFragment, MeantDocument}
 use Rattle.rule_document_definitions.specs.Selected.{operations, fragment_named}
 
--- of one of these selections
+-- Q holds of one of these selections
 abbrev pub AtSomeSelection : {P : Type 0} → (MeantSelection P → Type 0) → MeantSelections P → Type 0
 AtSomeSelection Q no_meant = ⊥
 AtSomeSelection Q (meant_then s ss) = Q s ⊎ AtSomeSelection Q ss
@@ -24,7 +24,7 @@ abbrev mutual
   ArePartOf (meant_then s ss) us = AtSomeSelection (λ u. IsPartOfSelection s u) us × ArePartOf ss us
 
 module _ {P : Type 0} where
-  -- the second operation, the second fragment, is the first, and may select more
+  -- the second operation is the first one, and may select more; the same for fragments
   abbrev pub IsPartOfOperation : MeantOperation P → MeantOperation P → Type 0
   IsPartOfOperation o w = (t : MeantSet P) × ((w ≡ record o { set = t }) × IsPartOfSet o.set t)
 

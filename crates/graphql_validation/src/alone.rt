@@ -3,13 +3,13 @@ ghost use Rattle.std.specs.Prelude.{IfOk, OnOk};
 ghost use Rattle.rule_fragments.specs.in_typed_operations.DocumentView.{document_meant, operation_meant};
 ghost use Rattle.fault_data.specs.Adds.{Adds};
 ghost use Rattle.fault_data.specs.FaultView.{faults_of};
-ghost use Rattle.fault_lists.specs.Once.{EachOnce};
-ghost use Rattle.graphql_validation.specs.Steps.{FindsAlone, NotesReached, FindsAllAlone, NotesAllReached, TellsAlone};
+ghost use Rattle.graphql_faults.specs.Once.{EachOnce};
+ghost use Rattle.graphql_validation.specs.OperationChecks.{FindsAlone, NotesReached, FindsAllAlone, NotesAllReached, TellsAlone};
 
 use crate::found::{Found, check_fragments, note_fragments};
 use document_typed_operations::{ExecutableDocument, Operation};
 use fault_data::{Fault, is_full};
-use fault_lists::each_once;
+use graphql_faults::each_once;
 use graphql_names::Node;
 use rule_fragments::{check_spreads, reach};
 use rule_selections::check_selections_alone;
@@ -34,8 +34,8 @@ fn check_operation(
     note_fragments(&reach, &mut found.used)
 }
 
-/// The faults of each operation without a schema, and the fragments that one of them reaches, up to the one where the list is
-/// full. A fault that operations share is found once.
+/// The faults of each operation without a schema, and the fragments that operations reach, until the list is full. A fault that
+/// operations share is found once.
 fn check_operations(alloc: Global, document: &ExecutableDocument) -> Result<Found, AllocError>
     ensures told { IfOk result (λ found. FindsAllAlone (document_meant document.now) found) }
     ensures noted { IfOk result (λ found. NotesAllReached (document_meant document.now) found) }

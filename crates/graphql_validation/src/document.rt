@@ -6,33 +6,33 @@ ghost use Rattle.rule_fragments.specs.in_typed_operations.DocumentView.{document
 ghost use Rattle.rule_document_definitions.specs.Selected.{operations};
 ghost use Rattle.fault_data.specs.FaultView.{faults_of};
 ghost use Rattle.rule_merging.specs.in_faults.DetailsView.{diagnostics_of, BeginsAs};
-ghost use Rattle.rule_fragments.specs.in_ground.Broken.{brokens_of};
+ghost use Rattle.rule_fragments.specs.in_reach.Broken.{brokens_of};
 ghost use Rattle.rule_definitions.specs.Judged.{judged};
 ghost use Rattle.rule_merging.specs.Merged.{DocumentMergingTold};
 ghost use Rattle.rule_fragments.specs.Possible.{ArePossibleIfFound};
 ghost use Rattle.graphql_validation.specs.TellsDocument.{TypedDocumentTold, SilenceMeansValid, ValidMeansSilence};
-ghost use Rattle.graphql_validation.specs.Told.{TellsOnce};
-ghost use Rattle.graphql_validation.specs.Steps.{TellsMerging, AllMerge};
+ghost use Rattle.graphql_validation.specs.ValidationFaults.{TellsOnce};
+ghost use Rattle.graphql_validation.specs.OperationChecks.{TellsMerging, AllMerge};
 
 use crate::found::fragments_differ;
 use crate::told::append_all;
 use crate::under_schema::faults_under;
 use document_typed_operations::ExecutableDocument;
 use fault_data::{Fault, MOST_TOLD};
-use fault_lists::each_once;
+use graphql_faults::each_once;
 use rule_fragments::{PossibleTypes, Schema, document_breaches, passes_path_bound};
 use rule_merging::{Breach, DiagnosticList, FieldsInSetCanMerge};
 use rule_selections::{IndexedSchema, SchemaInputs};
 use std::alloc::{AllocError, Global};
 
-/// Whether there is nothing to tell.
+/// Whether nothing is told.
 fn is_nothing(faults: &Vec<Fault>, breaches: &Vec<Breach>, is_passed: bool) -> bool
     ensures { IsTrue result ↔ ((faults_of faults.now ≡ []) × ((brokens_of breaches.now ≡ []) × (is_passed ≡ false))) }
 {
     faults.is_empty() && breaches.is_empty() && !is_passed
 }
 
-/// What does not merge in each operation, up to the one where [`MOST_TOLD`] are told or more.
+/// What does not merge in each operation, until [`MOST_TOLD`] or more are told.
 fn merge_each(
     alloc: Global,
     schema: &Schema,
@@ -70,9 +70,9 @@ fn merge_operations(
 }
 
 /// Tells what breaks the rules on a document under a schema (section 5, from 5.2.3 on, and the rules on `@defer`): all of it,
-/// each once, or [`MOST_TOLD`] faults. Where all other rules hold, the fields of each operation are merged (section 5.3.2). If
-/// the document is typed, as each that is built, nothing is told exactly when all rules hold, apart from the bounds on how deep
-/// spreads, selections and fields nest. Where memory is refused the list begins as before.
+/// each once, or [`MOST_TOLD`] faults. If all other rules hold, the rule on merging is checked too (section 5.3.2). If the
+/// document is typed, as each that is built, nothing is told exactly when all rules hold, apart from the bounds on how deep
+/// spreads, selections and fields nest. If memory is refused, the old list is a prefix of the new one.
 pub fn validate_executable_document(
     alloc: Global,
     list: &mut DiagnosticList,
@@ -90,7 +90,7 @@ pub fn validate_executable_document(
     validate_with_possible_types(alloc, list, &schema, None, document)
 }
 
-/// What [`validate_executable_document`] tells, where what the schema defines of many input values is there already, and the
+/// What [`validate_executable_document`] tells, if what the schema defines of many input values is found already, and the
 /// possible types of the schema may be: then they are not found again.
 pub fn validate_with_possible_types(
     alloc: Global,
@@ -106,7 +106,7 @@ pub fn validate_with_possible_types(
     ensures accepts { OnOk result (ValidMeansSilence (schema_tree schema.now) (document_meant document.now) (diagnostics_of list.old) (diagnostics_of list.new)) }
     ensures begins { OnErr result (BeginsAs (diagnostics_of list.old) (diagnostics_of list.new)) }
 {
-    // For its contract alone: no two fragments have one name, which the rules take for granted.
+    // For its contract only: no two fragments have one name, which the rules take for granted.
     fragments_differ(document);
     let faults = faults_under(alloc, schema, possible, document)?;
     let breaches = each_once(document_breaches(alloc, document)?)?;

@@ -8,7 +8,7 @@ ghost use Rattle.document_typed_operations.specs.TypedDocument.{typed_operation_
 ghost use Rattle.document_typed_selections.specs.TypedTree.{typed_set_tree};
 ghost use Rattle.rule_fragments.specs.in_typed_operations.DocumentView.{document_meant};
 ghost use Rattle.graphql_validation.specs.Operations.{query_on};
-ghost use Rattle.graphql_validation.specs.Told.{set_meant, TellsOnce, TypedFieldSetTold, SilenceMeansValidSet, ValidSetMeansSilence};
+ghost use Rattle.graphql_validation.specs.ValidationFaults.{set_meant, TellsOnce, TypedFieldSetTold, SilenceMeansValidSet, ValidSetMeansSilence};
 
 use crate::told::append_all;
 use crate::under_schema::faults_under;
@@ -21,7 +21,7 @@ use rule_selections::{IndexedSchema, SchemaInputs};
 use std::alloc::{AllocError, Global};
 use tree_directives::{DirectiveList, OperationType};
 
-/// A query that selects what the set does. It shares what the set holds.
+/// A query that selects what the set does. It shares the contents of the set.
 fn query_on(alloc: Global, set: &FieldSet) -> Result<Operation, AllocError>
     ensures { IfOk result (λ o. typed_operation_tree o ≡ query_on (typed_set_tree set.now.selection_set)) }
 {
@@ -48,9 +48,9 @@ fn document_of_set(alloc: Global, set: &FieldSet) -> Result<ExecutableDocument, 
 }
 
 /// Tells what breaks the rules on a field set under a schema (sections 5.3 to 5.8): those on a document whose only operation
-/// selects it, without variables and fragments, but the rules on merging, on subscriptions and on `@defer`; all of it, or
+/// selects it, without variables and fragments, except the rules on merging, on subscriptions and on `@defer`; all of it, or
 /// 1,000 faults. If the set is typed, as each that is made from selections, nothing is told exactly when those rules hold, apart
-/// from the bound on how deep selections nest. Where memory is refused the list begins as before.
+/// from the bound on how deep selections nest. If memory is refused, the old list is a prefix of the new one.
 pub fn validate_field_set(
     alloc: Global,
     list: &mut DiagnosticList,

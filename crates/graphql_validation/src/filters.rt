@@ -1,16 +1,16 @@
 //! The faults of rules that stay broken, among others.
 ghost use Rattle.std.specs.Prelude.{◌≡◌};
 ghost use Rattle.std.specs.List.{filter};
-ghost use Rattle.fault_document_data.specs.DocumentBreachView.{document_breach_of};
+ghost use Rattle.fault_document_errors.specs.DocumentBreachView.{document_breach_of};
 ghost use Rattle.fault_data.specs.DiagnosticView.{diagnostic_of};
 ghost use Rattle.fault_data.specs.FaultView.{faults_of};
 ghost use Rattle.graphql_validation.specs.Lasts.{data_lasts, fault_lasts, breach_lasts};
 
 use fault_data::{DiagnosticData, Fault};
-use fault_document_data::BuildError;
+use fault_document_errors::BuildError;
 use graphql_names::SourceSpan;
 
-/// Whether nothing that is added to a document can take the fault away: not a use, a selection or a fragment that is missing.
+/// Whether no addition to a document can take the fault away: it is not that a use, a selection or a fragment is missing.
 fn data_lasts(diagnostic: &DiagnosticData) -> bool
     ensures { result ≡ data_lasts (diagnostic_of diagnostic.now) }
 {
@@ -24,7 +24,7 @@ fn data_lasts(diagnostic: &DiagnosticData) -> bool
     )
 }
 
-/// Whether nothing that is added to a document changes what is told: it is told of one selection, and not of several.
+/// Whether no addition to a document changes what is told: it is about one selection, and not about several.
 fn breach_lasts(error: &BuildError) -> bool
     ensures { result ≡ breach_lasts (document_breach_of error.now) }
 {
@@ -38,7 +38,7 @@ fn breach_lasts(error: &BuildError) -> bool
 }
 
 /// Keeps the faults that last, in order. It takes no memory.
-// Told apart by their data, after the rules ran: so no rule is written a second time for what typing left.
+// They are selected by their data, after the rules ran: so no rule is written a second time for what typing left.
 pub(crate) fn keep_lasting_faults(faults: &mut Vec<Fault>)
     ensures { faults_of faults.new ≡ filter fault_lasts (faults_of faults.old) }
 {

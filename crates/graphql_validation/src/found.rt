@@ -4,15 +4,15 @@ ghost use Rattle.std.specs.List.{IsDistinct};
 ghost use Rattle.std.specs.Map.{keys_of};
 ghost use Rattle.std.specs.Str.{bytes_eq};
 ghost use Rattle.rule_fragments.specs.in_typed_operations.DocumentView.{document_meant};
-ghost use Rattle.rule_fragments.specs.in_ground.Reach.{reached_fragments_of};
-ghost use Rattle.rule_fragments.specs.in_ground.NotedNames.{noted_names};
+ghost use Rattle.rule_fragments.specs.in_reach.Reach.{reached_fragments_of};
+ghost use Rattle.rule_fragments.specs.in_reach.NotedNames.{noted_names};
 ghost use Rattle.fault_data.specs.FaultView.{faults_of};
 ghost use Rattle.graphql_validation.specs.Operations.{with_fragments};
-ghost use Rattle.graphql_validation.specs.Steps.{Joins, TellsFragments};
+ghost use Rattle.graphql_validation.specs.OperationChecks.{Joins, TellsFragments};
 
 use document_typed_operations::ExecutableDocument;
 use fault_data::{Fault, is_full};
-use fault_lists::add_new;
+use graphql_faults::add_new;
 use graphql_names::Name;
 use indexmap::IndexSet;
 use rule_fragments::{Reach, check_cycles, check_unused, note_name};
@@ -27,7 +27,7 @@ pub(crate) struct Found {
 }
 
 impl Found {
-    /// Nothing.
+    /// Nothing found yet.
     pub(crate) fn new(alloc: Global) -> Found
         ensures faults { result.faults.items ≡ [] }
         ensures used { result.used.keys ≡ [] }
@@ -38,7 +38,7 @@ impl Found {
         }
     }
 
-    /// What was found, without it: the faults of the next operation are found apart.
+    /// Takes out the faults that were found, so that the faults of the next operation are found apart from them.
     pub(crate) fn take_faults(&mut self) -> Vec<Fault>
         ensures taken { result ≡ self.old.faults }
         ensures none { self.new.faults.items ≡ [] }
@@ -48,8 +48,8 @@ impl Found {
         replace(&mut self.faults, Vec::new(alloc))
     }
 
-    /// Puts what was found before the faults of an operation, of which those are left out that were found already: most
-    /// operations share fragments. An operation that has as many as a call tells has its faults told, and no others.
+    /// Puts what was found before in front of the faults of an operation, except for those that were found already: most
+    /// operations share fragments. If an operation has as many as a call tells, only its faults are told.
     pub(crate) fn join(&mut self, before: Vec<Fault>) -> Result<(), AllocError>
         ensures joined { OnOk result (Joins (faults_of before) (faults_of self.old.faults) (faults_of self.new.faults)) }
         ensures used { self.new.used ≡ self.old.used }
@@ -75,11 +75,11 @@ pub(crate) fn note_fragments(
     Ok(())
 }
 
-/// No two fragments of a document stand under one name. It says nothing else.
+/// Its contract says that no two fragments of a document are under one name, and nothing else.
 pub(crate) fn fragments_differ(document: &ExecutableDocument)
     ensures { IsDistinct bytes_eq (keys_of (document_meant document.now).fragments) }
 {
-    // The length is dropped: a map that is asked for it says by contract that its names differ.
+    // The length is dropped: the contract of `len` says that the names in a map differ.
     let _ = document.fragments.len();
 }
 
@@ -92,7 +92,7 @@ pub(crate) fn check_fragments(
     ensures { IfOk result (λ r. TellsFragments (document_meant document.now) found (faults_of r)) }
 {
     let Found { mut faults, used } = found;
-    // Then not all operations may have been walked, so the names may be too few.
+    // Then perhaps not all operations were walked, so names may be missing.
     if is_full(&faults) {
         return Ok(faults);
     }

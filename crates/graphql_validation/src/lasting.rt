@@ -17,12 +17,12 @@ use rule_merging::DiagnosticList;
 use rule_selections::IndexedSchema;
 use std::alloc::{AllocError, Global};
 
-/// Tells of a document of which something may be left out, as typing does, what is wrong with it whatever that was: what
-/// breaks rules under a schema that stay broken whatever is added to the document (section 5, from 5.2.3 on, and the rules on
-/// `@defer`). Those are all rules on documents but UnusedVariable, MissingSubselection, UndefinedFragment, UnusedFragment,
-/// SubscriptionUsesMultipleFields and those on labels and on merging. What is told is of the faults that are found, all or
-/// 1,000 of all rules: where there are more, some that last may not be told. `possible` has the possible types of the schema,
-/// if they are there already. Where memory is refused the list begins as before.
+/// Given a document from which something may have been left out, as typing does, tells what is wrong with it whatever that was:
+/// what breaks rules under a schema that stay broken whatever is added to the document (section 5, from 5.2.3 on, and the rules
+/// on `@defer`). Those are all rules on documents but UnusedVariable, MissingSubselection, UndefinedFragment, UnusedFragment,
+/// SubscriptionUsesMultipleFields and those on labels and on merging. They are taken from the faults of all rules, all or 1,000:
+/// if there are more, some that last may not be told. `possible` has the possible types of the schema, if they are found
+/// already. If memory is refused, the old list is a prefix of the new one.
 pub fn tell_lasting_faults(
     alloc: Global,
     list: &mut DiagnosticList,

@@ -4,9 +4,9 @@ ghost use Rattle.fault_data.specs.FaultView.{faults_of};
 ghost use Rattle.rule_definitions.specs.Room.{most_told};
 ghost use Rattle.rule_merging.specs.in_faults.DetailsTree.{of_document};
 ghost use Rattle.rule_merging.specs.in_faults.DetailsView.{diagnostics_of, BeginsAs};
-ghost use Rattle.rule_fragments.specs.in_ground.Broken.{brokens_of};
+ghost use Rattle.rule_fragments.specs.in_reach.Broken.{brokens_of};
 ghost use Rattle.graphql_validation.specs.Operations.{bound_told, all_told};
-ghost use Rattle.graphql_validation.specs.Steps.{AddsDetails};
+ghost use Rattle.graphql_validation.specs.OperationChecks.{AddsDetails};
 
 use fault_data::{Fault, MOST_TOLD};
 use rule_merging::{Breach, Details, DiagnosticList, append_breaches};
@@ -23,8 +23,8 @@ fn append_bound(list: &mut DiagnosticList, is_passed: bool) -> Result<(), AllocE
     Ok(())
 }
 
-/// Adds what is told of a document at the end: faults, then breaches, then the bound. After a refusal the list begins as
-/// before.
+/// Appends what is told of a document: faults, then breaches, then the bound. If memory is refused, the old list stays
+/// first.
 pub(crate) fn append_told(
     list: &mut DiagnosticList,
     faults: Vec<Fault>,
@@ -39,8 +39,8 @@ pub(crate) fn append_told(
     append_bound(list, is_passed)
 }
 
-/// Keeps the first [`MOST_TOLD`] of what is told of a document: faults, then breaches, then the bound, of which it tells
-/// whether it is told.
+/// Keeps the first [`MOST_TOLD`] of what is told of a document: faults, then breaches, then the bound. Returns whether the
+/// bound is told.
 pub(crate) fn keep_first(
     faults: &mut Vec<Fault>,
     breaches: &mut Vec<Breach>,
@@ -54,7 +54,7 @@ pub(crate) fn keep_first(
     is_passed && breaches.len() < room
 }
 
-/// Adds the first [`MOST_TOLD`] of what is told of a document at the end. After a refusal the list begins as before.
+/// Appends the first [`MOST_TOLD`] of what is told of a document. If memory is refused, the old list is a prefix of the new one.
 pub(crate) fn append_all(
     list: &mut DiagnosticList,
     mut faults: Vec<Fault>,

@@ -3,17 +3,17 @@ ghost use Rattle.std.specs.Prelude.{IfOk, OnOk};
 ghost use Rattle.std.specs.Option.{option_copied};
 ghost use Rattle.fault_data.specs.Adds.{Adds};
 ghost use Rattle.fault_data.specs.FaultView.{faults_of};
-ghost use Rattle.fault_lists.specs.Once.{EachOnce};
+ghost use Rattle.graphql_faults.specs.Once.{EachOnce};
 ghost use Rattle.rule_definitions.specs.Judged.{judged};
 ghost use Rattle.rule_fragments.specs.in_schema.SchemaOf.{schema_tree};
 ghost use Rattle.rule_fragments.specs.in_typed_operations.DocumentView.{document_meant, operation_meant};
 ghost use Rattle.rule_fragments.specs.Possible.{ArePossibleIfFound};
-ghost use Rattle.graphql_validation.specs.Steps.{FindsUnder, NotesUnder, StayPossible, FindsAllUnder, NotesAllUnder, TellsUnder};
+ghost use Rattle.graphql_validation.specs.OperationChecks.{FindsUnder, NotesUnder, StayPossible, FindsAllUnder, NotesAllUnder, TellsUnder};
 
 use crate::found::{Found, check_fragments, note_fragments};
 use document_typed_operations::{ExecutableDocument, FragmentMap, Operation};
 use fault_data::{Fault, is_full};
-use fault_lists::each_once;
+use graphql_faults::each_once;
 use graphql_names::Node;
 use rule_fragments::{
     PossibleTypes, applying_conditions, check_applications, check_spreads, for_document, reach,
@@ -22,8 +22,8 @@ use rule_selections::{IndexedSchema, check_selections, settled_fragments};
 use rule_variables::{check_variables, check_variables_alone};
 use std::alloc::{AllocError, Global};
 
-/// Adds the faults of an operation under a schema, and notes the fragments that it reaches, where these fragments replace
-/// those of its document. The possible types of the schema are found where it first needs them.
+/// Adds the faults of an operation under a schema, and notes the fragments that it reaches, where `fragments` replace those of
+/// its document. The possible types of the schema are found when they are first needed.
 fn check_operation(
     schema: &IndexedSchema<'_>,
     possible: &mut Option<PossibleTypes>,
@@ -52,8 +52,8 @@ fn check_operation(
     note_fragments(&reach, &mut found.used)
 }
 
-/// The faults of each operation under a schema, and the fragments that one of them reaches, where these fragments replace
-/// those of the document, up to the one where the list is full. A fault that operations share is found once.
+/// The faults of each operation under a schema, and the fragments that operations reach, until the list is full; `fragments`
+/// replace those of the document. A fault that operations share is found once.
 fn check_operations(
     alloc: Global,
     schema: &IndexedSchema<'_>,
@@ -77,10 +77,10 @@ fn check_operations(
     Ok(found)
 }
 
-/// The faults of a document under a schema, each once: all, or 1,000. What several operations share is judged once, as far as it breaks
-/// no rule under the variables that all of them define alike. `possible` has the possible types of the schema, if they are
-/// there already. Where they are not, they are found once, where a fragment that several operations may share, or that an
-/// operation reaches, is on another type than that where it stands; if there is none, never.
+/// The faults of a document under a schema, each once: all, or 1,000. What several operations share is judged once, if it
+/// breaks no rule under the variables that all of them define alike. `possible` has the possible types of the schema, if
+/// they are found already. If not, they are found once, when a fragment that several operations may share, or that an
+/// operation reaches, is on another type than the set that applies it; if there is none, never.
 pub(crate) fn faults_under(
     alloc: Global,
     schema: &IndexedSchema<'_>,

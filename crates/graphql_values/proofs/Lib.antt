@@ -1,7 +1,7 @@
 pub mod Trees
-pub mod Decided
-pub mod TypeEquality
-pub mod ValueEquality
-pub mod DirectiveEquality
-pub mod SelectionEquality
-pub mod OperationEquality
+pub use Rattle.tree_operations.proofs.Decided
+pub use Rattle.tree_operations.proofs.TypeEquality
+pub use Rattle.tree_operations.proofs.ValueEquality
+pub use Rattle.tree_operations.proofs.DirectiveEquality
+pub use Rattle.tree_operations.proofs.SelectionEquality
+pub use Rattle.tree_operations.proofs.OperationEquality

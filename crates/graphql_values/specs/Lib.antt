@@ -1,6 +1,6 @@
-pub mod Writable
 pub mod OperationQueries
 pub mod TreeLaws
+pub use Rattle.tree_operations.specs.Writable
 pub use Rattle.tree_literals.specs.in_names.Placed
 pub use Rattle.tree_operations.specs.in_literals.Joined
 pub use Rattle.tree_operations.specs.in_literals.Puts

@@ -25,4 +25,4 @@ pub use tree_operations::{
     put_operation,
 };
 
-// Of the crates beneath, for those above.
+// Re-exported from the crates below, for the crates above.

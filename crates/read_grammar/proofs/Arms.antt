@@ -2,7 +2,7 @@
 use Rattle.std.proofs.Common.{◌≡◌, ℕ, zero, suc, Bool, true, false, Err, refl}
 use Rattle.graphql_ast.specs.in_literals.ValueTree.{ValueTree, EnumTree, VariableTree}
 use Rattle.read_tokens.specs.Input.{Input, next}
-use Rattle.read_grammar.specs.declared.stop.Stop.TheVariants.{Unexpected}
+use Rattle.read_grammar.specs.declared.parse_error.ParseError.TheVariants.{Unexpected}
 use Rattle.read_grammar.specs.Meaning.{Meaning}
 use Rattle.read_grammar.specs.Kinds.{next_is, is_dollar, is_int, is_float, is_string, is_boolean, is_null, is_enum_value, is_open_bracket, is_open_brace}
 use Rattle.read_grammar.specs.Begins.{begins_value}

@@ -1,9 +1,9 @@
 -- Where the reading of all tokens ends, a text of the symbol begins with the tokens before.
 use Rattle.std.proofs.Common.{◌≡◌, ℕ, suc, Bool, true, List, [], ◌∷◌, ◌++◌, Option, Some, None, Ok, Err, refl, ap, subst, ◌∙◌, sym, append_assoc, inl}
 use Rattle.read_tokens.specs.declared.terminal.Terminal.{Terminal}
-use Rattle.read_grammar.specs.declared.stop.Stop.{Stop}
+use Rattle.read_grammar.specs.declared.parse_error.ParseError.{ParseError}
 use Rattle.read_tokens.specs.Input.{Token, Input, Ended, next}
-use Rattle.read_grammar.specs.declared.stop.Stop.TheVariants.{Unexpected, Nesting, Memory}
+use Rattle.read_grammar.specs.declared.parse_error.ParseError.TheVariants.{Unexpected, Nesting, Memory}
 use Rattle.read_grammar.specs.Meaning.{begin_of}
 use Rattle.read_grammar.specs.Rules.{Rule}
 use Rattle.read_grammar.specs.Grammar.{DerivesAs}
@@ -18,10 +18,10 @@ module _ {A : Type 0} where
   abbrev pub done_at : A → Input → Outcome A
   done_at x o = Ok (x, o)
 
-  abbrev pub stop_at : Stop → Input → Outcome A
+  abbrev pub stop_at : ParseError → Input → Outcome A
   stop_at stop o = Err (stop, o)
 
-  abbrev pub stop_of : Outcome A → Stop
+  abbrev pub stop_of : Outcome A → ParseError
   stop_of (Ok z) = Memory
   stop_of (Err f) = f.0
 
@@ -59,7 +59,7 @@ module _ {A : Type 0} {k : Bool} (r : ℕ → Rule A) (p : ℕ → Parser A) {f 
   unfolding whole
   before = subst (λ (j : Input). BeginsBefore (DerivesAs r) i.ahead j.ahead) (sym (ended_place (p n i))) (front (p n i) ((viable n).at i))
 
-  pub before_stop : (stop : Stop) (z : Input) → whole p n i ≡ Err (stop, z) → BeginsBefore (DerivesAs r) i.ahead z.ahead
+  pub before_stop : (stop : ParseError) (z : Input) → whole p n i ≡ Err (stop, z) → BeginsBefore (DerivesAs r) i.ahead z.ahead
   before_stop stop z at = subst (λ (y : Outcome A). BeginsBefore (DerivesAs r) i.ahead (place_of y).ahead) at before
 
   -- a bracket too many may stand there

@@ -2,7 +2,7 @@
 use Rattle.std.proofs.Common.{◌≡◌, Bool, true, false, cond, List, [], ◌∷◌, Option, Some, None, Ok, Err, refl, sym, ap, subst, ◌∙◌, inl, inr, ◌⊎◌}
 use Rattle.read_tokens.specs.declared.terminal.Terminal.{Terminal}
 use Rattle.graphql_names.specs.Placed.{Placed}
-use Rattle.read_grammar.specs.declared.stop.Stop.TheVariants.{Unexpected}
+use Rattle.read_grammar.specs.declared.parse_error.ParseError.TheVariants.{Unexpected}
 use Rattle.read_tokens.specs.Input.{Token, Input, next, past}
 use Rattle.read_grammar.specs.Meaning.{Meaning, place_between}
 use Rattle.read_grammar.specs.Kinds.{next_is}

@@ -3,7 +3,7 @@ use Rattle.std.proofs.Common.{◌≡◌, ℕ, zero, suc, Bool, true, false, cond
 use Rattle.graphql_names.specs.Placed.{Placed}
 use Rattle.read_tokens.specs.declared.terminal.Terminal.{Terminal}
 use Rattle.read_tokens.specs.Input.{Token, Input, Ending, next, past}
-use Rattle.read_grammar.specs.declared.stop.Stop.TheVariants.{Unexpected}
+use Rattle.read_grammar.specs.declared.parse_error.ParseError.TheVariants.{Unexpected}
 use Rattle.read_grammar.specs.Meaning.{Meaning, place_between}
 use Rattle.read_grammar.specs.Kinds.{next_is}
 use Rattle.read_grammar.specs.Reading as read

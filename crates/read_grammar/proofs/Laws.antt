@@ -4,8 +4,8 @@ use Rattle.graphql_ast.specs.in_literals.TypeTree.{TypeTree}
 use Rattle.graphql_ast.specs.in_operations.SelectionTree.{SelectionTrees}
 use Rattle.graphql_ast.specs.in_definitions.DefinitionTree.{DefinitionTree}
 use Rattle.read_tokens.specs.Input.{Token, Input}
-use Rattle.read_grammar.specs.declared.stop.Stop.{Stop}
-use Rattle.read_grammar.specs.declared.stop.Stop.TheVariants.{Memory}
+use Rattle.read_grammar.specs.declared.parse_error.ParseError.{ParseError}
+use Rattle.read_grammar.specs.declared.parse_error.ParseError.TheVariants.{Memory}
 use Rattle.read_grammar.specs.Meaning.{Meaning}
 use Rattle.read_grammar.specs.Grammar.{Derives, DerivesType, DerivesSelections}
 use Rattle.read_grammar.specs.Depth.{depth}
@@ -55,10 +55,10 @@ module _ {P : Type 0} (m : Meaning P) where
     pub document_only : (tree other : List (DefinitionTree P)) (z : Input) → whole (d.document m) n i ≡ Ok (tree, z) → Derives m i.ahead other → tree ≡ other
     document_only = t.same_tree (document_parses m) refl n i begins
 
-    pub document_says : (stop : Stop) (z : Input) → (stop ≢ Memory → whole (d.document m) n i ≡ Err (stop, z)) → Says (Derives m) i.ahead i.ending n (fault_of stop z)
+    pub document_says : (stop : ParseError) (z : Input) → (stop ≢ Memory → whole (d.document m) n i ≡ Err (stop, z)) → Says (Derives m) i.ahead i.ending n (fault_of stop z)
     document_says = t.says (document_parses m) refl n i begins (document_viable m) refl
 
-    pub document_memory : (stop : Stop) (z : Input) (tree : List (DefinitionTree P)) → (stop ≢ Memory → whole (d.document m) n i ≡ Err (stop, z)) → Derives m i.ahead tree → depth i.ahead ≤ n → fault_of stop z ≡ faults.Memory
+    pub document_memory : (stop : ParseError) (z : Input) (tree : List (DefinitionTree P)) → (stop ≢ Memory → whole (d.document m) n i ≡ Err (stop, z)) → Derives m i.ahead tree → depth i.ahead ≤ n → fault_of stop z ≡ faults.Memory
     document_memory = t.only_memory (document_parses m) refl n i begins
 
     pub type_found : (tree : TypeTree P) (z : Input) → whole (v.type m) n i ≡ Ok (tree, z) → DerivesType m i.ahead tree
@@ -70,10 +70,10 @@ module _ {P : Type 0} (m : Meaning P) where
     pub type_only : (tree other : TypeTree P) (z : Input) → whole (v.type m) n i ≡ Ok (tree, z) → DerivesType m i.ahead other → tree ≡ other
     type_only = t.same_tree any_type_parses refl n i begins
 
-    pub type_says : (stop : Stop) (z : Input) → (stop ≢ Memory → whole (v.type m) n i ≡ Err (stop, z)) → Says (DerivesType m) i.ahead i.ending n (fault_of stop z)
+    pub type_says : (stop : ParseError) (z : Input) → (stop ≢ Memory → whole (v.type m) n i ≡ Err (stop, z)) → Says (DerivesType m) i.ahead i.ending n (fault_of stop z)
     type_says = t.says any_type_parses refl n i begins (type_viable m) refl
 
-    pub type_memory : (stop : Stop) (z : Input) (tree : TypeTree P) → (stop ≢ Memory → whole (v.type m) n i ≡ Err (stop, z)) → DerivesType m i.ahead tree → depth i.ahead ≤ n → fault_of stop z ≡ faults.Memory
+    pub type_memory : (stop : ParseError) (z : Input) (tree : TypeTree P) → (stop ≢ Memory → whole (v.type m) n i ≡ Err (stop, z)) → DerivesType m i.ahead tree → depth i.ahead ≤ n → fault_of stop z ≡ faults.Memory
     type_memory = t.only_memory any_type_parses refl n i begins
 
     pub selections_found : (tree : SelectionTrees P) (z : Input) → whole (o.selections m) n i ≡ Ok (tree, z) → DerivesSelections m i.ahead tree
@@ -85,8 +85,8 @@ module _ {P : Type 0} (m : Meaning P) where
     pub selections_only : (tree other : SelectionTrees P) (z : Input) → whole (o.selections m) n i ≡ Ok (tree, z) → DerivesSelections m i.ahead other → tree ≡ other
     selections_only = t.same_tree (selections_parses m) refl n i begins
 
-    pub selections_says : (stop : Stop) (z : Input) → (stop ≢ Memory → whole (o.selections m) n i ≡ Err (stop, z)) → Says (DerivesSelections m) i.ahead i.ending n (fault_of stop z)
+    pub selections_says : (stop : ParseError) (z : Input) → (stop ≢ Memory → whole (o.selections m) n i ≡ Err (stop, z)) → Says (DerivesSelections m) i.ahead i.ending n (fault_of stop z)
     selections_says = t.says (selections_parses m) refl n i begins (selections_viable m) refl
 
-    pub selections_memory : (stop : Stop) (z : Input) (tree : SelectionTrees P) → (stop ≢ Memory → whole (o.selections m) n i ≡ Err (stop, z)) → DerivesSelections m i.ahead tree → depth i.ahead ≤ n → fault_of stop z ≡ faults.Memory
+    pub selections_memory : (stop : ParseError) (z : Input) (tree : SelectionTrees P) → (stop ≢ Memory → whole (o.selections m) n i ≡ Err (stop, z)) → DerivesSelections m i.ahead tree → depth i.ahead ≤ n → fault_of stop z ≡ faults.Memory
     selections_memory = t.only_memory (selections_parses m) refl n i begins

@@ -1,7 +1,7 @@
 -- What a step of the cursor does.
 use Rattle.std.proofs.Common.{◌≡◌, ℕ, suc, Bool, true, false, cond, List, [], ◌∷◌, Ok, Err, refl, sym}
 use Rattle.read_tokens.specs.declared.terminal.Terminal.{Terminal}
-use Rattle.read_grammar.specs.declared.stop.Stop.TheVariants.{Unexpected}
+use Rattle.read_grammar.specs.declared.parse_error.ParseError.TheVariants.{Unexpected}
 use Rattle.read_tokens.specs.Input.{Token, Input, next, next_of}
 use Rattle.read_tokens.specs.Cursor.{skipped, skipped_in}
 use Rattle.read_grammar.specs.Kinds.{next_is}

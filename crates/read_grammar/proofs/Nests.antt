@@ -1,8 +1,8 @@
 -- Where a parser stops, and how deep it has gone.
 use Rattle.std.proofs.Common.{◌≡◌, ℕ, zero, suc, ◌+◌, ◌-◌, ◌≤◌, Bool, true, false, cond, if◌then◌else◌, List, [], ◌∷◌, ◌++◌, length, Some, None, Ok, Err, refl, sym, ap, ◌∙◌, arith, append_assoc}
 use Rattle.read_tokens.specs.declared.terminal.Terminal.{Terminal}
-use Rattle.read_grammar.specs.declared.stop.Stop.{Stop}
-use Rattle.read_grammar.specs.declared.stop.Stop.TheVariants.{Unexpected, Nesting, Memory}
+use Rattle.read_grammar.specs.declared.parse_error.ParseError.{ParseError}
+use Rattle.read_grammar.specs.declared.parse_error.ParseError.TheVariants.{Unexpected, Nesting, Memory}
 use Rattle.read_tokens.specs.Input.{Token, Input, next, past}
 use Rattle.graphql_names.specs.Placed.{Placed}
 use Rattle.read_grammar.specs.Meaning.{Meaning, place_between}
@@ -80,7 +80,7 @@ pub record TooDeep (n : ℕ) (taken : List Token) (o : Input) : Type 0 where
   pub opening : next_is is_opening (next o) ≡ true
   pub within : depth taken ≤ n
 
-abbrev pub StopsAt : ℕ → List Token → Stop → Input → Type 0
+abbrev pub StopsAt : ℕ → List Token → ParseError → Input → Type 0
 StopsAt n taken Unexpected o = Unit {0}
 StopsAt n taken Nesting o = TooDeep n taken o
 StopsAt n taken Memory o = ⊥
@@ -96,7 +96,7 @@ none_closed : (n : ℕ) → Closed n []
 unfolding depth
 none_closed n = record { even = refl; deep = omega arith }
 
-stops_behind : (n : ℕ) (xs ys : List Token) (stop : Stop) (o : Input) → Closed n xs → StopsAt n ys stop o → StopsAt n (xs ++ ys) stop o
+stops_behind : (n : ℕ) (xs ys : List Token) (stop : ParseError) (o : Input) → Closed n xs → StopsAt n ys stop o → StopsAt n (xs ++ ys) stop o
 stops_behind n xs ys Unexpected o e h = tt
 stops_behind n xs ys Nesting o c h =
     let e = c.even in
@@ -243,7 +243,7 @@ module _ {A : Type 0} {n : ℕ} {q : Parser A} (opening closing : Terminal → B
   close_at t ts xs x o [] left to c e = (t ∷ xs, ap (λ (w : List Token). t ∷ w) (e ∙ ap (λ (w : List Token). xs ++ w) (sym left)), tt)
   close_at t ts xs x o (u ∷ us) left to c e = close_test t ts xs x o u us (closing u.kind) left to c e refl
 
-  stop_in : (t : Token) (xs : List Token) (stop : Stop) (o : Input) → is_opening t.kind ≡ true → StopsAt n xs stop o → StopsAt (suc n) (t ∷ xs) stop o
+  stop_in : (t : Token) (xs : List Token) (stop : ParseError) (o : Input) → is_opening t.kind ≡ true → StopsAt n xs stop o → StopsAt (suc n) (t ∷ xs) stop o
   unfolding depth
   stop_in t xs Unexpected o to h = tt
   stop_in t xs Nesting o to h =

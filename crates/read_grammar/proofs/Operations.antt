@@ -160,31 +160,31 @@ module _ {P : Type 0} (m : Meaning P) where
 
   -- one rule for both that begin with the dots
   module _ (n : ℕ) (r : Rule (SelectionTrees P)) where
-    abbrev dots : Rule (SelectionTree P)
-    dots = g.fragment_spread m n ∣ g.inline_fragment m n r
+    abbrev spread_or_inline : Rule (SelectionTree P)
+    spread_or_inline = g.fragment_spread m n ∣ g.inline_fragment m n r
 
     abbrev together : Rule (SelectionTree P)
     together = dotted_of <$> rule.placed m (rule.mark is_spread · dotted_rule n r)
 
-    to_dots_by : (i : Input) (x : SelectionTree P) (z mid : Input) (place : P) (y : Dotted P) → rule.mark is_spread i tt mid → place ≡ place_between m i z → x ≡ dotted_at place y → dotted_rule n r mid y z → dots i x z
+    to_spread_or_inline_by : (i : Input) (x : SelectionTree P) (z mid : Input) (place : P) (y : Dotted P) → rule.mark is_spread i tt mid → place ≡ place_between m i z → x ≡ dotted_at place y → dotted_rule n r mid y z → spread_or_inline i x z
     unfolding g.fragment_spread g.inline_fragment
-    to_dots_by i x z mid place y mk at same (inl h) = inl (record { it = (tt, h.0); place = place }, ((mid, mk, h.1), at), same ∙ ap (dotted_at place) h.2)
-    to_dots_by i x z mid place y mk at same (inr h) = inr (record { it = (tt, h.0); place = place }, ((mid, mk, h.1), at), same ∙ ap (dotted_at place) h.2)
+    to_spread_or_inline_by i x z mid place y mk at same (inl h) = inl (record { it = (tt, h.0); place = place }, ((mid, mk, h.1), at), same ∙ ap (dotted_at place) h.2)
+    to_spread_or_inline_by i x z mid place y mk at same (inr h) = inr (record { it = (tt, h.0); place = place }, ((mid, mk, h.1), at), same ∙ ap (dotted_at place) h.2)
 
-    to_dots : (i : Input) (x : SelectionTree P) (z : Input) → together i x z → dots i x z
-    to_dots i x z h = to_dots_by i x z h.1.0.0 h.0.place h.0.it.1 h.1.0.1 h.1.1 h.2 h.1.0.2
+    to_spread_or_inline : (i : Input) (x : SelectionTree P) (z : Input) → together i x z → spread_or_inline i x z
+    to_spread_or_inline i x z h = to_spread_or_inline_by i x z h.1.0.0 h.0.place h.0.it.1 h.1.0.1 h.1.1 h.2 h.1.0.2
 
-    from_dots : (i : Input) (x : SelectionTree P) (z : Input) → dots i x z → together i x z
+    from_spread_or_inline : (i : Input) (x : SelectionTree P) (z : Input) → spread_or_inline i x z → together i x z
     unfolding g.fragment_spread g.inline_fragment
-    from_dots i x z (inl h) = (record { it = (tt, inl h.0.it.1); place = h.0.place }, ((h.1.0.0, h.1.0.1, inl (h.0.it.1, h.1.0.2, refl)), h.1.1), h.2)
-    from_dots i x z (inr h) = (record { it = (tt, inr h.0.it.1); place = h.0.place }, ((h.1.0.0, h.1.0.1, inr (h.0.it.1, h.1.0.2, refl)), h.1.1), h.2)
+    from_spread_or_inline i x z (inl h) = (record { it = (tt, inl h.0.it.1); place = h.0.place }, ((h.1.0.0, h.1.0.1, inl (h.0.it.1, h.1.0.2, refl)), h.1.1), h.2)
+    from_spread_or_inline i x z (inr h) = (record { it = (tt, inr h.0.it.1); place = h.0.place }, ((h.1.0.0, h.1.0.1, inr (h.0.it.1, h.1.0.2, refl)), h.1.1), h.2)
 
   pub selection_parses : (n h : ℕ) → n ≤ h → {r : Rule _} {q q' : Parser _} → Parses 1 n r q q' (next_is is_open_brace) any → Parses 1 n (g.selection m n r) (o.selection m n q) (o.selection m h q') (next_is begins_selection) after_selection
   unfolding g.selection o.selection
   selection_parses n h le {r} set =
       weaker (next_is begins_selection) after_selection refl refl
       (alternative is_name refl refl (field_parses n h le set)
-      (restated (dots n r) (to_dots n r) (from_dots n r) (mapped dotted_of (located m (seq refl (mark is_spread refl) (dotted_parses n h le set))))))
+      (restated (spread_or_inline n r) (to_spread_or_inline n r) (from_spread_or_inline n r) (mapped dotted_of (located m (seq refl (mark is_spread refl) (dotted_parses n h le set))))))
 
   pub selection_list_parses : (n h : ℕ) → n ≤ h → {r : Rule _} {q q' : Parser _} → Parses 1 n r q q' (next_is is_open_brace) any → Parses 0 n (g.selection_list m n r) (o.selection_list m n q) (o.selection_list m h q') (next_is begins_selection) (either (next_is is_close_brace) at_end)
   unfolding g.selection_list o.selection_list

@@ -2,8 +2,8 @@
 use Rattle.std.proofs.Common.{◌≡◌, ℕ, ◌+◌, ◌<◌, ◌≤◌, Bool, true, false, cond, List, [], ◌∷◌, length, Some, None, Ok, Err, refl, sym, ap, ◌∙◌, arith, inl, inr, ◌⊎◌}
 use Rattle.read_tokens.specs.declared.terminal.Terminal.{Terminal}
 use Rattle.graphql_names.specs.Placed.{Placed}
-use Rattle.read_grammar.specs.declared.stop.Stop.{Stop}
-use Rattle.read_grammar.specs.declared.stop.Stop.TheVariants.{Unexpected, Nesting, Memory}
+use Rattle.read_grammar.specs.declared.parse_error.ParseError.{ParseError}
+use Rattle.read_grammar.specs.declared.parse_error.ParseError.TheVariants.{Unexpected, Nesting, Memory}
 use Rattle.read_tokens.specs.Input.{Token, Input, next, next_of, past}
 use Rattle.read_grammar.specs.Meaning.{Meaning, place_between, begin_of}
 use Rattle.read_grammar.specs.Kinds.{next_is}
@@ -33,7 +33,7 @@ abbrev pub Shorter : {A : Type 0} → ℕ → ℕ → Outcome A → Type 0
 Shorter k n (Ok z) = length z.1.ahead + k ≤ n
 Shorter k n (Err f) = length f.1.ahead ≤ n
 
-abbrev pub RelatedAt : {A : Type 0} → Fork → Stop → Input → Outcome A → Type 0
+abbrev pub RelatedAt : {A : Type 0} → Fork → ParseError → Input → Outcome A → Type 0
 RelatedAt a Unexpected o y = (length o.ahead < a.far) ⊎ ((j : Input) × (y ≡ Err (Unexpected, j)) × AlikeIn a o j)
 RelatedAt a Nesting o y = Unit {0}
 RelatedAt a Memory o y = Unit {0}
@@ -51,7 +51,7 @@ shorter_more : {A : Type 0} (y : Outcome A) (k l a n : ℕ) → Shorter l a y �
 shorter_more (Ok z) k l a n h lt = omega arith
 shorter_more (Err f) k l a n h lt = omega arith
 
-passed_at : {A : Type 0} (a : Fork) (stop : Stop) (o : Input) (w : Outcome A) → length o.ahead < a.far → RelatedAt a stop o w
+passed_at : {A : Type 0} (a : Fork) (stop : ParseError) (o : Input) (w : Outcome A) → length o.ahead < a.far → RelatedAt a stop o w
 passed_at a Unexpected o w lt = inl lt
 passed_at a Nesting o w lt = tt
 passed_at a Memory o w lt = tt
@@ -65,7 +65,7 @@ module _ {A B : Type 0} {k l : ℕ} {p p' : Parser A} {f f' : A → Parser B} (p
   then_shorter (Ok z) n h = shorter_more (f z.0 z.1) k l (length z.1.ahead) n ((ff z.0).shorter z.1) h
   then_shorter (Err g) n h = h
 
-  then_stop : (a : Fork) (stop : Stop) (o : Input) (w : Outcome A) → RelatedAt a stop o w → RelatedAt a stop o (and_then w f')
+  then_stop : (a : Fork) (stop : ParseError) (o : Input) (w : Outcome A) → RelatedAt a stop o w → RelatedAt a stop o (and_then w f')
   then_stop a Unexpected o w (inl h) = inl h
   then_stop a Unexpected o w (inr h) = inr (h.0, ap (λ (y : Outcome A). and_then y f') h.1, h.2)
   then_stop a Nesting o w h = tt
@@ -202,7 +202,7 @@ located {P} {A} {k} {p} {p'} m pp = record {
     by_length (Ok z) i h = h
     by_length (Err f) i h = h
 
-    by_stop : (a : Fork) (i j : Input) (stop : Stop) (o : Input) (w : Outcome A) → RelatedAt a stop o w → RelatedAt a stop o (finish m j w)
+    by_stop : (a : Fork) (i j : Input) (stop : ParseError) (o : Input) (w : Outcome A) → RelatedAt a stop o w → RelatedAt a stop o (finish m j w)
     by_stop a i j Unexpected o w (inl h) = inl h
     by_stop a i j Unexpected o w (inr h) = inr (h.0, ap (finish m j) h.1, h.2)
     by_stop a i j Nesting o w h = tt

@@ -2,8 +2,8 @@
 use Rattle.std.proofs.Common.{◌≡◌, ℕ, zero, suc, ◌+◌, ◌≤◌, Bool, true, false, cond, List, [], ◌∷◌, length, None, Ok, Err, refl, ap, arith, inl, inr}
 use Rattle.read_tokens.specs.declared.terminal.Terminal.{Terminal}
 use Rattle.read_tokens.specs.Input.{Token, Input, next, next_of}
-use Rattle.read_grammar.specs.declared.stop.Stop.{Stop}
-use Rattle.read_grammar.specs.declared.stop.Stop.TheVariants.{Unexpected, Nesting, Memory}
+use Rattle.read_grammar.specs.declared.parse_error.ParseError.{ParseError}
+use Rattle.read_grammar.specs.declared.parse_error.ParseError.TheVariants.{Unexpected, Nesting, Memory}
 use Rattle.read_grammar.specs.Kinds.{next_is}
 use Rattle.read_grammar.specs.Reading.{Outcome, Parser, and_then, many_within, many, some}
 use Rattle.read_grammar.proofs.Steady.{Steady, Shorter, Fork, Alike, here, done, further, AlikeIn, Related, RelatedAt, passed, next_alike, choice, refused}
@@ -36,7 +36,7 @@ module _ {A : Type 0} {p p' : Parser A} (begins : Terminal → Bool) (pp : Stead
   cons_shorter (Ok z) x n h = h
   cons_shorter (Err f) x n h = h
 
-  cons_stop : (a : Fork) (stop : Stop) (o : Input) (x : A) (w : Outcome (List A)) → RelatedAt a stop o w → RelatedAt a stop o (and_then w (λ xs o. Ok (x ∷ xs, o)))
+  cons_stop : (a : Fork) (stop : ParseError) (o : Input) (x : A) (w : Outcome (List A)) → RelatedAt a stop o w → RelatedAt a stop o (and_then w (λ xs o. Ok (x ∷ xs, o)))
   cons_stop a Unexpected o x w (inl h) = inl h
   cons_stop a Unexpected o x w (inr h) = inr (h.0, ap (λ (y : Outcome (List A)). and_then y (λ xs o. Ok (x ∷ xs, o))) h.1, h.2)
   cons_stop a Nesting o x w h = tt
@@ -47,7 +47,7 @@ module _ {A : Type 0} {p p' : Parser A} (begins : Terminal → Bool) (pp : Stead
   cons_alike a x (Ok z) w (inr h) = inr (h.0, ap (λ (y : Outcome (List A)). and_then y (λ xs o. Ok (x ∷ xs, o))) h.1, h.2)
   cons_alike a x (Err f) w h = cons_stop a f.0 f.1 x w h
 
-  first_stop : (a : Fork) (m : ℕ) (stop : Stop) (o : Input) (w : Outcome A) → RelatedAt a stop o w → RelatedAt {A = List A} a stop o (and_then w (λ x o. and_then (many_within begins p' m o) (λ xs o. Ok (x ∷ xs, o))))
+  first_stop : (a : Fork) (m : ℕ) (stop : ParseError) (o : Input) (w : Outcome A) → RelatedAt a stop o w → RelatedAt {A = List A} a stop o (and_then w (λ x o. and_then (many_within begins p' m o) (λ xs o. Ok (x ∷ xs, o))))
   first_stop a m Unexpected o w (inl h) = inl h
   first_stop a m Unexpected o w (inr h) = inr (h.0, ap (λ (y : Outcome A). and_then y (λ x o. and_then (many_within begins p' m o) (λ xs o. Ok (x ∷ xs, o)))) h.1, h.2)
   first_stop a m Nesting o w h = tt

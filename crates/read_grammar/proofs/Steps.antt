@@ -3,8 +3,8 @@ use Rattle.std.proofs.Common.{◌≡◌, ◌≢◌, ℕ, zero, suc, ◌<◌, ◌
 use Rattle.std.specs.Prelude.{map}
 use Rattle.std.proofs.lemmas.List.{append-nil, map-append}
 use Rattle.read_tokens.specs.declared.terminal.Terminal.{Terminal}
-use Rattle.read_grammar.specs.declared.stop.Stop.{Stop}
-use Rattle.read_grammar.specs.declared.stop.Stop.TheVariants.{Unexpected, Memory}
+use Rattle.read_grammar.specs.declared.parse_error.ParseError.{ParseError}
+use Rattle.read_grammar.specs.declared.parse_error.ParseError.TheVariants.{Unexpected, Memory}
 use Rattle.read_tokens.specs.Input.{Token, Input, next, next_of}
 use Rattle.read_grammar.specs.Kinds.{next_is}
 use Rattle.read_grammar.specs.Reading.{Outcome, Parser, and_then, many_within, many, some}
@@ -62,11 +62,11 @@ module _ {A : Type 0} {q : Parser A} (begins : Terminal → Bool) (st : Steady 1
       regroup (Ok z) = ap (λ (xs : List A). Ok (xs, z.1)) (simp append_assoc)
       regroup (Err f) = refl
 
-  pub turn_stops : (front : List A) (i : Input) (f : Stop × Input) (whole : Outcome (List A)) → with_front front (many begins q i) ≡ whole → next_is begins (next i) ≡ true → q i ≡ Err f → whole ≡ Err f
+  pub turn_stops : (front : List A) (i : Input) (f : ParseError × Input) (whole : Outcome (List A)) → with_front front (many begins q i) ≡ whole → next_is begins (next i) ≡ true → q i ≡ Err f → whole ≡ Err f
   turn_stops front i f whole e h is =
       sym e ∙ ap (with_front front) (unfold_many i h ∙ ap (λ (y : Outcome A). and_then y (λ x o. and_then (many begins q o) (λ xs o. Ok (x ∷ xs, o)))) is)
 
-  pub turn_stops_with : (front : List A) (i : Input) (e : Stop) (o : Input) (whole : Outcome (List A)) → with_front front (many begins q i) ≡ whole → next_is begins (next i) ≡ true → (e ≢ Memory → q i ≡ Err (e, o)) → e ≢ Memory → whole ≡ Err (e, o)
+  pub turn_stops_with : (front : List A) (i : Input) (e : ParseError) (o : Input) (whole : Outcome (List A)) → with_front front (many begins q i) ≡ whole → next_is begins (next i) ≡ true → (e ≢ Memory → q i ≡ Err (e, o)) → e ≢ Memory → whole ≡ Err (e, o)
   turn_stops_with front i e o whole w h is other = turn_stops front i (e, o) whole w h (is other)
 
   ends_by : (n : ℕ) (i : Input) → next_is begins (next i) ≡ false → many_within begins q n i ≡ Ok ([], i)

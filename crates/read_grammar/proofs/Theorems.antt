@@ -4,8 +4,8 @@ use Rattle.std.proofs.lemmas.List.{append-nil}
 use Rattle.read_tokens.specs.declared.terminal.Terminal.{Terminal}
 use Rattle.read_tokens.specs.declared.terminal.Terminal.TheVariants as terminal
 use Rattle.read_tokens.specs.Input.{Token, Input, Ending, Ended, NoTokenAt, next, next_of}
-use Rattle.read_grammar.specs.declared.stop.Stop.{Stop}
-use Rattle.read_grammar.specs.declared.stop.Stop.TheVariants.{Unexpected, Nesting, Memory}
+use Rattle.read_grammar.specs.declared.parse_error.ParseError.{ParseError}
+use Rattle.read_grammar.specs.declared.parse_error.ParseError.TheVariants.{Unexpected, Nesting, Memory}
 use Rattle.read_grammar.specs.Meaning.{start, begin_of}
 use Rattle.read_grammar.specs.Kinds.{next_is}
 use Rattle.read_grammar.specs.Rules.{Rule}
@@ -90,7 +90,7 @@ module _ {A : Type 0} where
   ended_ok x o z None e at = (ok_is (x, o) z at, next_none o.ahead e)
   ended_ok x o z (Some kind) e at = absurd cc
 
-  stops_by : (a : Fork) (o : Input) (stop : Stop) (q : Input) (w : Outcome A) → a.far ≤ length o.ahead → stop_at {A = A} stop q ≡ stop_at Unexpected o → RelatedAt a stop q w → (j : Input) × (w ≡ Err (Unexpected, j))
+  stops_by : (a : Fork) (o : Input) (stop : ParseError) (q : Input) (w : Outcome A) → a.far ≤ length o.ahead → stop_at {A = A} stop q ≡ stop_at Unexpected o → RelatedAt a stop q w → (j : Input) × (w ≡ Err (Unexpected, j))
   stops_by a o Unexpected q w le at (inl h) = let e : q ≡ o = ap place_of at in let len = ap (λ (i : Input). length i.ahead) e in absurd (omega (arith, len))
   stops_by a o Unexpected q w le at (inr h) = (h.0, h.1)
   stops_by a o Nesting q w le at h = let no : Nesting ≡ Unexpected = ap stop_of at in absurd cc
@@ -103,7 +103,7 @@ module _ {A : Type 0} where
   nested_ok : (n : ℕ) (ts : List Token) (y : Outcome A) (x : A) (o : Input) → At n ts y → y ≡ Ok (x, o) → (taken : List Token) × (ts ≡ taken ++ o.ahead) × Closed n taken
   nested_ok n ts y x o h e = subst (At n ts) e h
 
-  nested_err : (n : ℕ) (ts : List Token) (y : Outcome A) (stop : Stop) (o : Input) → At n ts y → y ≡ Err (stop, o) → (taken : List Token) × (ts ≡ taken ++ o.ahead) × StopsAt n taken stop o
+  nested_err : (n : ℕ) (ts : List Token) (y : Outcome A) (stop : ParseError) (o : Input) → At n ts y → y ≡ Err (stop, o) → (taken : List Token) × (ts ≡ taken ++ o.ahead) × StopsAt n taken stop o
   nested_err n ts y stop o h e = subst (At n ts) e h
 
 head_of : (o : Input) → next_is is_opening (next o) ≡ true → (b : Token) × (r : List Token) × (o.ahead ≡ b ∷ r) × (is_opening b.kind ≡ true)
@@ -239,12 +239,12 @@ module _ {A : Type 0} {r : ℕ → Rule A} {p : ℕ → Parser A} {b e : Test} (
 
     -- ---- as a call answers
 
-    kept_at : (stop : Stop) (o : Input) → whole p n i ≡ Err (stop, o) → o.ending ≡ i.ending
+    kept_at : (stop : ParseError) (o : Input) → whole p n i ≡ Err (stop, o) → o.ending ≡ i.ending
     kept_at stop o at = sym (ap ending_of at) ∙ (whole_keeps n).ending i
 
     module _ {k : Bool} {f : Test} (viable : (n : ℕ) → Viable k (r (suc n)) (p n) f) (free : f None ≡ true) where
       -- a text of the symbol begins with the tokens before the place where reading stops
-      pub begins_before : (stop : Stop) (o : Input) → whole p n i ≡ Err (stop, o) → BeginsBefore (DerivesAs r) i.ahead o.ahead
+      pub begins_before : (stop : ParseError) (o : Input) → whole p n i ≡ Err (stop, o) → BeginsBefore (DerivesAs r) i.ahead o.ahead
       begins_before stop o at = before_stop r p viable free n i begins stop o at
 
       all_begin : (last : List Token) → BeginsBefore (DerivesAs r) i.ahead last → last ≡ [] → BeginsSome (DerivesAs r) i.ahead
@@ -267,13 +267,13 @@ module _ {A : Type 0} {r : ℕ → Rule A} {p : ℕ → Parser A} {b e : Test} (
             begins_none = λ more tree d. stopped b.front c rest o parts at left more tree (subst (λ (ts : List Token). DerivesAs r ts tree) (append_assoc b.front (c ∷ []) more) d);
           }
 
-      pub says : (stop : Stop) (o : Input) → (stop ≢ Memory → whole p n i ≡ Err (stop, o)) → Says (DerivesAs r) i.ahead i.ending n (fault_of stop o)
+      pub says : (stop : ParseError) (o : Input) → (stop ≢ Memory → whole p n i ≡ Err (stop, o)) → Says (DerivesAs r) i.ahead i.ending n (fault_of stop o)
       says Unexpected o at = let is = at (λ e. cc) in unexpected_says o o.ahead is refl (kept_at Unexpected o is)
       says Nesting o at = (too_deep_at o (at (λ e. cc)), may_nest r p viable free n i begins o (at (λ e. cc)))
       says Memory o at = tt
 
     -- Where a tree is derived within the limit, a stop is want of memory.
-    pub only_memory : (stop : Stop) (o : Input) (tree : A) → (stop ≢ Memory → whole p n i ≡ Err (stop, o)) → DerivesAs r i.ahead tree → depth i.ahead ≤ n → fault_of stop o ≡ faults.Memory
+    pub only_memory : (stop : ParseError) (o : Input) (tree : A) → (stop ≢ Memory → whole p n i ≡ Err (stop, o)) → DerivesAs r i.ahead tree → depth i.ahead ≤ n → fault_of stop o ≡ faults.Memory
     only_memory Unexpected o tree at d le = let k = only tree d le in let e : stop_at Unexpected o ≡ done_at tree k.0 = sym (at (λ e. cc)) ∙ k.1 in absurd cc
     only_memory Nesting o tree at d le = let k = only tree d le in let e : stop_at Nesting o ≡ done_at tree k.0 = sym (at (λ e. cc)) ∙ k.1 in absurd cc
     only_memory Memory o tree at d le = refl

@@ -3,8 +3,8 @@ use Rattle.std.proofs.Common.{◌≡◌, ℕ, ◌≤◌, Bool, true, false, cond
 use Rattle.std.proofs.lemmas.List.{length-append}
 use Rattle.graphql_names.specs.Placed.{Placed}
 use Rattle.read_tokens.specs.declared.terminal.Terminal.{Terminal}
-use Rattle.read_grammar.specs.declared.stop.Stop.{Stop}
-use Rattle.read_grammar.specs.declared.stop.Stop.TheVariants.{Unexpected, Nesting, Memory}
+use Rattle.read_grammar.specs.declared.parse_error.ParseError.{ParseError}
+use Rattle.read_grammar.specs.declared.parse_error.ParseError.TheVariants.{Unexpected, Nesting, Memory}
 use Rattle.read_tokens.specs.Input.{Token, Input, Ended, next, next_of, past}
 use Rattle.read_grammar.specs.Meaning.{Meaning, begin_of, place_between}
 use Rattle.read_grammar.specs.Kinds.{next_is}
@@ -31,7 +31,7 @@ pub record Fills {A : Type 0} (r : Rule A) (f : Test) : Type 0 where
   pub fill : (rest : List Token) → f (next_of rest) ≡ true → (more : List Token) × (length rest ≤ length more) × ((i : Input) → i.ahead ≡ more → Leaves r i rest)
 
 -- At a bracket too many what is put there begins with the bracket.
-abbrev pub Starts : Stop → List Token → List Token → List Token → Type 0
+abbrev pub Starts : ParseError → List Token → List Token → List Token → Type 0
 Starts Nesting ahead rest more = (b : Token) × (after : List Token) × (later : List Token) × (ahead ≡ b ∷ after) × (more ≡ b ∷ later) × (length rest ≤ length later)
 Starts stop ahead rest more = Unit {0}
 
@@ -151,7 +151,7 @@ some_taken : (k l : Bool) (xs ys : List Token) → (k ≡ true → 1 ≤ length 
 some_taken true l xs ys a b e = let c = a refl in omega (arith, length-append xs ys)
 some_taken false l xs ys a b e = let c = b e in omega (arith, length-append xs ys)
 
-pub fewer_starts : (stop : Stop) (ahead rest less more : List Token) → length less ≤ length rest → Starts stop ahead rest more → Starts stop ahead less more
+pub fewer_starts : (stop : ParseError) (ahead rest less more : List Token) → length less ≤ length rest → Starts stop ahead rest more → Starts stop ahead less more
 fewer_starts Nesting ahead rest less more le h = let k = h.5 in (h.0, h.1, h.2, h.3, h.4, omega arith)
 fewer_starts Unexpected ahead rest less more le h = tt
 fewer_starts Memory ahead rest less more le h = tt

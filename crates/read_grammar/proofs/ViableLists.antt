@@ -1,8 +1,8 @@
 -- Lists and what stands between brackets stop behind the front of a text.
 use Rattle.std.proofs.Common.{◌≡◌, ℕ, zero, suc, ◌≤◌, Bool, true, false, cond, List, [], ◌∷◌, ◌++◌, length, Ok, Err, refl, sym, ap, subst, ◌∙◌, arith, append_assoc, inl, inr}
 use Rattle.read_tokens.specs.declared.terminal.Terminal.{Terminal}
-use Rattle.read_grammar.specs.declared.stop.Stop.{Stop}
-use Rattle.read_grammar.specs.declared.stop.Stop.TheVariants.{Unexpected, Nesting, Memory}
+use Rattle.read_grammar.specs.declared.parse_error.ParseError.{ParseError}
+use Rattle.read_grammar.specs.declared.parse_error.ParseError.TheVariants.{Unexpected, Nesting, Memory}
 use Rattle.read_tokens.specs.Input.{Token, Input, next, next_of, past}
 use Rattle.read_grammar.specs.Kinds.{next_is}
 use Rattle.read_grammar.specs.Rules as rule
@@ -29,7 +29,7 @@ module _ {A : Type 0} {k : Bool} {r : Rule A} {p : Parser A} {f : Test} (begins 
   goes_on (t ∷ ts) m o e rest a = inr (ap next_of (sym e))
 
   -- behind an item the others stop: where that is at once, at a token that cannot follow, the item was the last
-  stopped : (i : Input) (x : A) (m : Input) (taken : List Token) → i.ahead ≡ taken ++ m.ahead → ((rest : List Token) → Follows f (next m) rest → r (put i (taken ++ rest)) x (put m rest)) → (stop : Stop) (o : Input) (others : List Token) → m.ahead ≡ others ++ o.ahead
+  stopped : (i : Input) (x : A) (m : Input) (taken : List Token) → i.ahead ≡ taken ++ m.ahead → ((rest : List Token) → Follows f (next m) rest → r (put i (taken ++ rest)) x (put m rest)) → (stop : ParseError) (o : Input) (others : List Token) → m.ahead ≡ others ++ o.ahead
       → ((rest : List Token) → f (next_of rest) ≡ true → (more : List Token) × (length rest ≤ length more) × Starts stop o.ahead rest more × Leaves (rule.many r) (put m (others ++ more)) rest) → Goes {A = List A} false (rule.some r) f i (Err (stop, o))
   stopped i x m taken e rr Unexpected o [] e' g =
       (taken, e ∙ ap (λ (ts : List Token). taken ++ ts) e', λ rest fo. (rest, omega arith, tt, (x ∷ [], put m rest, refl, (put m rest, rr rest (inl fo), refl))))

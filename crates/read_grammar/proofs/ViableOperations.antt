@@ -113,25 +113,25 @@ module _ {P : Type 0} (m : Meaning P) where
       (mapped inr (seq (maybe is_on type_condition_viable) (seq (maybe is_at (directives_viable m false n)) set)))
 
   module _ (n : ℕ) (r : Rule (SelectionTrees P)) where
-    abbrev dots : Rule (SelectionTree P)
-    dots = g.fragment_spread m n ∣ g.inline_fragment m n r
+    abbrev spread_or_inline : Rule (SelectionTree P)
+    spread_or_inline = g.fragment_spread m n ∣ g.inline_fragment m n r
 
     abbrev together : Rule (SelectionTree P)
     together = dotted_of <$> rule.placed m (rule.mark is_spread · dotted_rule n r)
 
-    to_dots_by : (i : Input) (x : SelectionTree P) (z mid : Input) (place : P) (y : Dotted P) → rule.mark is_spread i tt mid → place ≡ place_between m i z → x ≡ dotted_at place y → dotted_rule n r mid y z → dots i x z
+    to_spread_or_inline_by : (i : Input) (x : SelectionTree P) (z mid : Input) (place : P) (y : Dotted P) → rule.mark is_spread i tt mid → place ≡ place_between m i z → x ≡ dotted_at place y → dotted_rule n r mid y z → spread_or_inline i x z
     unfolding g.fragment_spread g.inline_fragment
-    to_dots_by i x z mid place y mk at same (inl h) = inl (record { it = (tt, h.0); place = place }, ((mid, mk, h.1), at), same ∙ ap (dotted_at place) h.2)
-    to_dots_by i x z mid place y mk at same (inr h) = inr (record { it = (tt, h.0); place = place }, ((mid, mk, h.1), at), same ∙ ap (dotted_at place) h.2)
+    to_spread_or_inline_by i x z mid place y mk at same (inl h) = inl (record { it = (tt, h.0); place = place }, ((mid, mk, h.1), at), same ∙ ap (dotted_at place) h.2)
+    to_spread_or_inline_by i x z mid place y mk at same (inr h) = inr (record { it = (tt, h.0); place = place }, ((mid, mk, h.1), at), same ∙ ap (dotted_at place) h.2)
 
-    to_dots : (i : Input) (x : SelectionTree P) (z : Input) → together i x z → dots i x z
-    to_dots i x z h = to_dots_by i x z h.1.0.0 h.0.place h.0.it.1 h.1.0.1 h.1.1 h.2 h.1.0.2
+    to_spread_or_inline : (i : Input) (x : SelectionTree P) (z : Input) → together i x z → spread_or_inline i x z
+    to_spread_or_inline i x z h = to_spread_or_inline_by i x z h.1.0.0 h.0.place h.0.it.1 h.1.0.1 h.1.1 h.2 h.1.0.2
 
   pub selection_viable : (n : ℕ) {r : Rule _} {q : Parser _} → Viable true r q any → Viable true (g.selection m (suc n) r) (o.selection m n q) any
   unfolding g.selection o.selection
   selection_viable n {r} set =
       alternative is_name (field_viable n set)
-      (restated (dots (suc n) r) (to_dots (suc n) r) (mapped dotted_of (located m (seq (mark is_spread k.Spread refl) (dotted_viable n set)))))
+      (restated (spread_or_inline (suc n) r) (to_spread_or_inline (suc n) r) (mapped dotted_of (located m (seq (mark is_spread k.Spread refl) (dotted_viable n set)))))
 
   pub selection_list_viable : (n : ℕ) {r : Rule _} {q : Parser _} → Viable true r q any → Viable false (g.selection_list m (suc n) r) (o.selection_list m n q) any
   unfolding g.selection_list o.selection_list

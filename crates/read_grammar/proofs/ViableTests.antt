@@ -1,7 +1,7 @@
 -- A rule whose tree is tested stops behind the front of a text.
 use Rattle.std.proofs.Common.{◌≡◌, ◌≤◌, Bool, true, false, cond, List, [], ◌∷◌, ◌++◌, length, Ok, Err, refl, sym, ap, subst, ◌∙◌, arith, append_assoc, inr}
-use Rattle.read_grammar.specs.declared.stop.Stop.{Stop}
-use Rattle.read_grammar.specs.declared.stop.Stop.TheVariants.{Unexpected, Nesting, Memory}
+use Rattle.read_grammar.specs.declared.parse_error.ParseError.{ParseError}
+use Rattle.read_grammar.specs.declared.parse_error.ParseError.TheVariants.{Unexpected, Nesting, Memory}
 use Rattle.read_tokens.specs.Input.{Token, Input, next_of}
 use Rattle.read_grammar.specs.Rules as rule
 use Rattle.read_grammar.specs.Rules.{Rule}
@@ -41,7 +41,7 @@ module _ {A : Type 0} {k : Bool} {r : Rule A} {p : Parser A} {f : Test} (passes 
       (w.taken, g.1 ∙ w.parts, λ rest fo. let c = w.more rest fo in (c.0, c.1, tt, c.2))
 
   -- what stands before the rest begins as the whole does, where the rest is shorter
-  begins_split : (stop : Stop) (ahead rest more s others : List Token) → more ≡ s ++ rest → length rest ≤ length others → Starts stop ahead rest more → Starts stop ahead rest (s ++ others)
+  begins_split : (stop : ParseError) (ahead rest more s others : List Token) → more ≡ s ++ rest → length rest ≤ length others → Starts stop ahead rest more → Starts stop ahead rest (s ++ others)
   begins_split Nesting ahead rest more [] others e le h = let len = ap (λ (ts : List Token). length ts) (sym e ∙ h.4) in let k = h.5 in absurd (omega (arith, len))
   begins_split Nesting ahead rest more (x ∷ s) others e le h =
       let same : x ≡ h.0 = ap (λ (ts : List Token). head x ts) (sym e ∙ h.4) in
@@ -53,7 +53,7 @@ module _ {A : Type 0} {k : Bool} {r : Rule A} {p : Parser A} {f : Test} (passes 
   begins_split Unexpected ahead rest more s others e le h = tt
   begins_split Memory ahead rest more s others e le h = tt
 
-  completed : (stop : Stop) (ahead : List Token) (i : Input) (taken rest : List Token) → f (next_of rest) ≡ true → (more : List Token) → length rest ≤ length more → Starts stop ahead rest more → (x : A) (o : Input) → o.ahead ≡ rest → r (put i (taken ++ more)) x o → (b : Bool) → passes x ≡ b → (more : List Token) × (length rest ≤ length more) × Starts stop ahead rest more × Leaves (rule.such_that passes r) (put i (taken ++ more)) rest
+  completed : (stop : ParseError) (ahead : List Token) (i : Input) (taken rest : List Token) → f (next_of rest) ≡ true → (more : List Token) → length rest ≤ length more → Starts stop ahead rest more → (x : A) (o : Input) → o.ahead ≡ rest → r (put i (taken ++ more)) x o → (b : Bool) → passes x ≡ b → (more : List Token) × (length rest ≤ length more) × Starts stop ahead rest more × Leaves (rule.such_that passes r) (put i (taken ++ more)) rest
   completed stop ahead i taken rest fo more le st x o e a true is = (more, le, st, (x, o, e, (a, is)))
   completed stop ahead i taken rest fo more le st x o e a false is =
       let w = grows (put i (taken ++ more)) x o a is in

@@ -13,7 +13,7 @@ use Rattle.read_grammar.specs.OperationReading.{operation_definition, fragment_d
 use Rattle.read_grammar.specs.TypeSystemReading.{description, schema_definition, type_definition, directive_definition, schema_extension}
 
 module _ {P : Type 0} (m : Meaning P) where
-  -- behind a description
+  -- what follows a description
   unfoldable pub undescribed : ℕ → Parser (KindTree P ⊎ DirectiveDefinitionTree P)
   undescribed n =
       when begins_kind (inl <&> when is_schema (SchemaKind <&> schema_definition m n) (type_definition m n))
@@ -22,7 +22,7 @@ module _ {P : Type 0} (m : Meaning P) where
   unfoldable pub type_system_definition : ℕ → Parser (DefinitionTree P)
   type_system_definition n = type_system_of <&> placed m (try is_string (description m) ⊙ undescribed n)
 
-  -- behind `extend`
+  -- what follows `extend`
   unfoldable pub extension : ℕ → Parser (KindTree P)
   extension n = such_that has_part (when is_schema (SchemaKind <&> schema_extension m n) (type_definition m n))
 

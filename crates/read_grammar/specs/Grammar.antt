@@ -1,4 +1,4 @@
--- The grammar of documents (GraphQL, October 2021, appendix B), and what it says of whole texts.
+-- The grammar of documents (GraphQL, October 2021, appendix B), and which tokens of whole texts it derives, with which trees.
 use Rattle.std.specs.Prelude.{◌≡◌, ℕ, Bool, true, false, ◌&&◌, not, List, [], ◌∷◌, Option, ◌⊎◌}
 use Rattle.std.proofs.Common.{inl, inr}
 use Rattle.graphql_names.specs.Placed.{Placed, Text}
@@ -14,7 +14,7 @@ use Rattle.read_grammar.specs.ValueGrammar.{type}
 use Rattle.read_grammar.specs.OperationGrammar.{selections, operation_definition, fragment_definition}
 use Rattle.read_grammar.specs.TypeSystemGrammar.{KindTree, SchemaKind, ScalarKind, ObjectKind, InterfaceKind, UnionKind, EnumKind, InputObjectKind, description, schema_definition, type_definition, directive_definition, schema_extension}
 
--- ---- the trees that the rules make
+-- ---- the trees that the rules build
 
 abbrev pub is_empty : {A : Type 0} → List A → Bool
 is_empty [] = true
@@ -49,7 +49,7 @@ module _ {P : Type 0} where
   abbrev pub extension_of : Placed P (Unit {0} × KindTree P) → DefinitionTree P
   extension_of x = extended x.place x.it.1
 
-  -- at least one part stands behind `schema` or behind the name
+  -- at least one part follows `schema` or the name
   abbrev pub has_part : KindTree P → Bool
   has_part (SchemaKind x) = not (is_empty x.directives && is_empty x.roots)
   has_part (ScalarKind x) = not (is_empty x.directives)
@@ -85,7 +85,7 @@ module _ {P : Type 0} (m : Meaning P) where
 
 -- ---- whole texts
 
--- the tokens are a symbol, and this is its tree
+-- all these tokens together are a text of the symbol, with this tree, at some limit of nesting
 abbrev pub DerivesAs : {A : Type 0} → (ℕ → Rule A) → List Token → A → Type 0
 DerivesAs symbol tokens tree = (n : ℕ) × (o : Input) × (o.ahead ≡ []) × symbol n (start tokens) tree o
 

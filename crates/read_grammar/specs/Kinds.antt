@@ -1,4 +1,4 @@
--- Which terminals stand for which symbols of the grammar (GraphQL, October 2021, appendix B).
+-- Which terminals belong to which symbols of the grammar (GraphQL, October 2021, appendix B).
 use Rattle.std.specs.Prelude.{Bool, true, false, if◌then◌else◌, Option, Some, None}
 use denote.Enum.Bare.{sameb}
 use Rattle.read_tokens.specs.contracts.terminal.Terminal.{the_type}
@@ -9,14 +9,14 @@ use Rattle.read_tokens.specs.declared.terminal.Terminal.TheVariants as k
 abbrev pub is : Terminal → Terminal → Bool
 is = sameb the_type
 
--- one class or the other, and one without the other
+-- a terminal of one class or the other, and one of the first class but not of the second
 abbrev pub or : (Terminal → Bool) → (Terminal → Bool) → Terminal → Bool
 or f g kind = if f kind then true else g kind
 
 abbrev pub but_not : (Terminal → Bool) → (Terminal → Bool) → Terminal → Bool
 but_not f g kind = if g kind then false else f kind
 
--- of the next token, where there is one
+-- whether there is a next token, and its terminal passes
 abbrev pub next_is : (Terminal → Bool) → Option Terminal → Bool
 next_is is None = false
 next_is is (Some kind) = is kind
@@ -133,7 +133,7 @@ is_location = is k.Location
 
 -- ---- classes
 
--- Name: any name, the keywords too
+-- Name: any name, also the keywords
 abbrev pub is_name : Terminal → Bool
 is_name k.Name = true
 is_name k.Query = true

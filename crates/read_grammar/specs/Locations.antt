@@ -1,4 +1,4 @@
--- The names of directive locations (GraphQL, October 2021, section 3.13; the last goes past it).
+-- The names of directive locations (GraphQL, October 2021, section 3.13; the last is not in it).
 use Rattle.std.specs.Prelude.{ℕ, List, [], ◌∷◌, if◌then◌else◌, bytes_eq}
 use Rattle.graphql_ast.specs.in_values.OperationQueries.{location_keyword}
 use Rattle.graphql_ast.specs.in_directives.declared.directive_location.DirectiveLocation.{DirectiveLocation}
@@ -27,7 +27,7 @@ locations =
     ∷ location.InputFieldDefinition
     ∷ []
 
--- the first of these that is so written, and the last of the twenty where none is
+-- the first of these with this name; if none has it, the last of the twenty
 abbrev pub named_among : List DirectiveLocation → List ℕ → DirectiveLocation
 named_among [] text = location.DirectiveDefinition
 named_among (x ∷ xs) text = if bytes_eq (location_keyword x) text then x else named_among xs text

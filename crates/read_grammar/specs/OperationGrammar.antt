@@ -13,7 +13,7 @@ use Rattle.read_grammar.specs.Kinds.{is_fragment_name, is_colon, is_spread, is_o
 use Rattle.read_grammar.specs.Rules.{Rule, one, mark, ◌·◌, ◌<$>◌, ◌∣◌, nothing, optional, some, between, placed}
 use Rattle.read_grammar.specs.ValueGrammar.{constant, with_variables, name, variable, default_value, arguments, directives, type}
 
--- ---- the trees that the rules make
+-- ---- the trees that the rules build
 
 module _ {P : Type 0} where
   abbrev pub selections_of : List (SelectionTree P) → SelectionTrees P
@@ -37,7 +37,7 @@ module _ {P : Type 0} where
   abbrev pub variable_definition_of : Text P × (Unit {0} × (Placed P (TypeTree P) × (Option (Placed P (ValueTree P)) × Option (Directives P)))) → VariableDefinitionTree P
   variable_definition_of x = record { name = x.0; ty = x.1.1.0; default_value = x.1.1.1.0; directives = unwrap_or x.1.1.1.1 [] }
 
-  -- a query that is its selections alone
+  -- a query that is written as its selection set only
   abbrev pub short_of : SelectionTrees P → OperationTree P
   short_of selections = record { operation_type = Query; name = None; variables = []; directives = []; selections = selections }
 

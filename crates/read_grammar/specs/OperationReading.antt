@@ -21,7 +21,7 @@ operation_type =
     (when is_mutation ((λ _. Mutation) <&> mark is_mutation)
     (when is_subscription ((λ _. Subscription) <&> mark is_subscription) refuse))
 
--- what stands behind three dots
+-- what follows `...`
 abbrev pub Dotted : Type 0 → Type 0
 Dotted P = (Text P × Option (Directives P)) ⊎ (Option (Text P) × (Option (Directives P) × SelectionTrees P))
 
@@ -34,7 +34,7 @@ module _ {P : Type 0} where
   dotted_of x = dotted_at x.place x.it.1
 
 module _ {P : Type 0} (m : Meaning P) where
-  -- a name, and another one where a colon follows
+  -- a name; or, if a colon follows it, an alias and a name
   unfoldable pub alias_and_name : Parser (Option (Text P) × Text P)
   alias_and_name i = and_then (name m i) (λ first. when is_colon ((λ x. (Some first, x.1)) <&> mark is_colon ⊙ name m) (pure (None, first)))
 

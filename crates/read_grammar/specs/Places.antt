@@ -10,10 +10,10 @@ abbrev pub place_if : ℕ → (begin length : ℕ) (fits : Bool) → ltb (begin 
 place_if file begin length true e = Some (record { file_id = record { 0 = file }; offset = begin; length = length; fits = ltb-true (begin + length) (2 ^ 64) e })
 place_if file begin length false e = None
 
--- the place in a file from where something begins to where it ends; where these are no numbers below 2 ^ 64, as in no text, none
+-- the place in a file from where something begins to where it ends; `None` unless both are below 2 ^ 64, as they are in any text
 unfoldable pub place_in : ℕ → ℕ → ℕ → Place
 place_in file begin end = place_if file begin (end - begin) (ltb (begin + (end - begin)) (2 ^ 64)) refl
 
--- what tokens mean in a file, by what a String token stands for
+-- what tokens mean in a file, from what string tokens stand for
 abbrev pub meaning_in : (Token → List ℕ) → ℕ → Meaning Place
 meaning_in string file = record { place = place_in file; string = string }

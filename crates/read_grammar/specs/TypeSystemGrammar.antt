@@ -14,9 +14,9 @@ use Rattle.read_grammar.specs.Rules.{Rule, one, mark, ◌·◌, ◌<$>◌, ◌�
 use Rattle.read_grammar.specs.ValueGrammar.{constant, name, enum_value, default_value, directives, type}
 use Rattle.read_grammar.specs.OperationGrammar.{operation_type}
 
--- ---- the trees that the rules make
+-- ---- the trees that the rules build
 
--- what a definition of a schema or a type says behind its description, and an extension behind `extend`
+-- what a definition of a schema or a type says after its description, and an extension after `extend`
 pub data KindTree (P : Type 0) : Type 0 where
   SchemaKind : SchemaParts P → KindTree P
   ScalarKind : ScalarParts P → KindTree P
@@ -112,7 +112,7 @@ module _ {P : Type 0} (m : Meaning P) where
   roots zero = nothing
   roots (suc n) = between is_open_brace (some (placed m root_operation_type_definition)) is_close_brace
 
-  -- SchemaDefinition, behind its description: "schema" Directives[Const]? Roots
+  -- SchemaDefinition, after its description: "schema" Directives[Const]? Roots
   unfoldable pub schema_definition : ℕ → Rule (SchemaParts P)
   schema_definition n = schema_of <$> mark is_schema · optional (directives m constant n) · roots n
 
@@ -184,7 +184,7 @@ module _ {P : Type 0} (m : Meaning P) where
   unfoldable pub input_object_type : ℕ → Rule (InputObjectParts P)
   input_object_type n = input_object_of <$> mark is_input · name m · optional (directives m constant n) · optional_unless is_open_brace (input_fields_definition n)
 
-  -- TypeDefinition, behind its description: "scalar" .. / "type" .. / "interface" .. / "union" .. / "enum" .. / "input" ..
+  -- TypeDefinition, after its description: "scalar" .. / "type" .. / "interface" .. / "union" .. / "enum" .. / "input" ..
   unfoldable pub type_definition : ℕ → Rule (KindTree P)
   type_definition n =
       ScalarKind <$> scalar_type n
@@ -195,11 +195,11 @@ module _ {P : Type 0} (m : Meaning P) where
       ∣ InputObjectKind <$> input_object_type n
 
   -- Laxer: October 2021 has no directives here
-  -- DirectiveDefinition, behind its description: "directive" "@" Name ArgumentsDefinition? Directives[Const]? "repeatable"? "on" DirectiveLocations
+  -- DirectiveDefinition, after its description: "directive" "@" Name ArgumentsDefinition? Directives[Const]? "repeatable"? "on" DirectiveLocations
   unfoldable pub directive_definition : ℕ → Rule (DirectiveDefinitionTree P)
   directive_definition n =
       directive_definition_of <$> mark is_directive · mark is_at · name m · optional (arguments_definition n) · optional (directives m constant n) · optional (mark is_repeatable) · mark is_on · directive_locations
 
-  -- SchemaExtension, behind "extend": "schema" Directives[Const]? Roots?
+  -- SchemaExtension, after "extend": "schema" Directives[Const]? Roots?
   unfoldable pub schema_extension : ℕ → Rule (SchemaParts P)
   schema_extension n = schema_extension_of <$> mark is_schema · optional (directives m constant n) · optional_unless is_open_brace (roots n)

@@ -1,5 +1,5 @@
--- The grammar of values, arguments, directives and types (GraphQL, October 2021, appendix B): a rule for each symbol. The number says
--- how deep brackets may nest.
+-- The grammar of values, arguments, directives and types (GraphQL, October 2021, appendix B): a rule for each symbol. The number of a
+-- rule says how deep its brackets may nest.
 use Rattle.std.specs.Prelude.{ℕ, zero, suc, Bool, true, false, List, [], ◌∷◌, Option, Some, None, unwrap_or}
 use Rattle.graphql_names.specs.Placed.{Placed, Text}
 use Rattle.graphql_ast.specs.in_literals.ValueTree.{ValueTree, NullTree, EnumTree, VariableTree, StringTree, FloatTree, IntTree, BooleanTree, ListTree, ObjectTree, ItemTrees, no_items, item_then, EntryTrees, no_entries, entry_then}
@@ -20,7 +20,7 @@ constant = true
 abbrev pub with_variables : Const
 with_variables = false
 
--- ---- the trees that the rules make
+-- ---- the trees that the rules build
 
 module _ {P : Type 0} where
   abbrev pub items_of : List (Placed P (ValueTree P)) → ItemTrees P
@@ -37,7 +37,7 @@ module _ {P : Type 0} where
   abbrev pub directive_of : Unit {0} × (Text P × Option (Arguments P)) → DirectiveTree P
   directive_of x = record { name = x.1.0; arguments = unwrap_or x.1.1 [] }
 
-  -- a type with "!" behind it
+  -- a type with "!" after it
   abbrev pub non_null : TypeTree P → TypeTree P
   non_null (NamedTree n) = NonNullNamedTree n
   non_null (types.ListTree t) = NonNullListTree t

@@ -9,9 +9,9 @@
 
 pub mod due_faults;
 pub mod one_tree;
-mod stop;
+mod parse_error;
 
-pub use stop::Stop;
+pub use parse_error::ParseError;
 
-// Of the crates beneath, for those above.
+// Re-exported from the crates below, for the crates above.
 pub use graphql_ast::{Definition, Document, SourceFile};

@@ -4,7 +4,7 @@ use Rattle.tree_literals.specs.ValueTree.{ValueTree, BooleanTree}
 use Rattle.read_tokens.specs.declared.terminal.Terminal.{Terminal}
 use Rattle.read_tokens.specs.Cursor.{skipped}
 use Rattle.read_tokens.specs.Input.{Input, next}
-use Rattle.read_grammar.specs.declared.stop.Stop.TheVariants.{Unexpected, Nesting}
+use Rattle.read_grammar.specs.declared.parse_error.ParseError.TheVariants.{Unexpected, Nesting}
 use Rattle.read_grammar.specs.Meaning.{Meaning}
 use Rattle.read_grammar.specs.Kinds.{next_is, is_dollar, is_int, is_float, is_string, is_boolean, is_true, is_false, is_null, is_enum_value, is_open_bracket, is_open_brace}
 use Rattle.read_grammar.specs.Reading.{Parser, mark, refuse, too_deep, ◌<&>◌}

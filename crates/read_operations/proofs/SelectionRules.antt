@@ -23,9 +23,9 @@ use Rattle.read_grammar.specs.OperationReading.{Dotted, dotted_of}
 use Rattle.read_grammar.specs.Reading.{Outcome, Parser, Reads, and_then, mark, try, ◌⊙◌}
 use Rattle.read_grammar.specs.ValueGrammar.{with_variables}
 use Rattle.read_grammar.specs.ValueReading.{arguments, directives}
-use Rattle.read_grammar.specs.declared.stop.Stop.{Stop}
+use Rattle.read_grammar.specs.declared.parse_error.ParseError.{ParseError}
 use Rattle.read_operations.specs.PartViews.{Ends}
-use Rattle.read_operations.specs.SelectionSteps.{FieldRead, InlineRead, field_with, inline_with, field_head, spread_parts, inline_head, inline_parts, spread_since, inline_since, dots}
+use Rattle.read_operations.specs.SelectionSteps.{FieldRead, InlineRead, field_with, inline_with, field_head, spread_parts, inline_head, inline_parts, spread_since, inline_since, spread_or_inline}
 
 abbrev done : {A : Type 0} → A → Input → Outcome A
 done x z = Ok (x, z)
@@ -80,8 +80,8 @@ module _ {P : Type 0} (m : Meaning P) where
   abbrev pub inline_from : Input → Outcome (Option (Text P) × (Directives P × SelectionTrees P)) → Outcome (SelectionTree P)
   inline_from i y = and_then y (λ f z. done (InlineTree (place_between m i z) f.0 f.1.0 f.1.1) z)
 
-  abbrev pub dots_from : ℕ → Parser (SelectionTrees P) → Input → Outcome (Unit {0}) → Outcome (SelectionTree P)
-  dots_from n s i y = and_then y (λ u k. cond (next_is is_fragment_name (next k)) (spread_from i (spread_parts m n k)) (inline_from i (inline_parts m n s k)))
+  abbrev pub spread_or_inline_from : ℕ → Parser (SelectionTrees P) → Input → Outcome (Unit {0}) → Outcome (SelectionTree P)
+  spread_or_inline_from n s i y = and_then y (λ u k. cond (next_is is_fragment_name (next k)) (spread_from i (spread_parts m n k)) (inline_from i (inline_parts m n s k)))
 
   abbrev SpreadRead : Type 0
   SpreadRead = Text P × Option (Directives P)
@@ -95,9 +95,9 @@ module _ {P : Type 0} (m : Meaning P) where
   abbrev finish : Input → Unit {0} → Outcome (Dotted P) → Outcome (SelectionTree P)
   finish i u y = and_then (and_then (and_then y (λ x z. done (u, x) z)) (λ x z. done (put x (place_between m i z)) z)) (λ x z. done (dotted_of x) z)
 
-  dots_is : (n : ℕ) (s : Parser (SelectionTrees P)) (i : Input) → dots m n s i ≡ dots_from n s i (mark is_spread i)
+  spread_or_inline_is : (n : ℕ) (s : Parser (SelectionTrees P)) (i : Input) → spread_or_inline m n s i ≡ spread_or_inline_from n s i (mark is_spread i)
   unfolding o.dotted
-  dots_is n s i = go (mark is_spread i)
+  spread_or_inline_is n s i = go (mark is_spread i)
     where
       two : (u : Unit {0}) (t : Bool) (a : Outcome SpreadRead) (b : Outcome AllInline)
           → finish i u (cond t (and_then a (λ x z. done (either_way (inl x)) z)) (and_then b (λ x z. done (either_way (inr x)) z))) ≡ cond t (spread_from i (and_then a (λ x z. done (x.0, unwrap_or x.1 []) z))) (inline_from i (and_then b (λ x z. done (x.0, (unwrap_or x.1.0 [], x.1.1)) z)))
@@ -106,15 +106,15 @@ module _ {P : Type 0} (m : Meaning P) where
       two u false a (Ok x) = refl
       two u false a (Err e) = refl
 
-      go : (y : Outcome (Unit {0})) → and_then (and_then (and_then y (λ u k. and_then (o.dotted m n s k) (λ x z. done (u, x) z))) (λ x z. done (put x (place_between m i z)) z)) (λ x z. done (dotted_of x) z) ≡ dots_from n s i y
+      go : (y : Outcome (Unit {0})) → and_then (and_then (and_then y (λ u k. and_then (o.dotted m n s k) (λ x z. done (u, x) z))) (λ x z. done (put x (place_between m i z)) z)) (λ x z. done (dotted_of x) z) ≡ spread_or_inline_from n s i y
       go (Err e) = refl
       go (Ok k) = two k.0 (next_is is_fragment_name (next k.1)) ((o.fragment_name m ⊙ try is_at (directives m with_variables n)) k.1) ((try is_on (o.type_condition m) ⊙ try is_at (directives m with_variables n) ⊙ s) k.1)
 
-  pub dots_spread : (n : ℕ) (s : Parser (SelectionTrees P)) (i k : Input) → mark is_spread i ≡ Ok (tt, k) → next_is is_fragment_name (next k) ≡ true → dots m n s i ≡ spread_since m (begin_of i.ahead) n k
-  dots_spread n s i k read goes = dots_is n s i ∙ rw (read, goes) refl
+  pub spread_or_inline_spread : (n : ℕ) (s : Parser (SelectionTrees P)) (i k : Input) → mark is_spread i ≡ Ok (tt, k) → next_is is_fragment_name (next k) ≡ true → spread_or_inline m n s i ≡ spread_since m (begin_of i.ahead) n k
+  spread_or_inline_spread n s i k read goes = spread_or_inline_is n s i ∙ rw (read, goes) refl
 
-  pub dots_inline : (n : ℕ) (s : Parser (SelectionTrees P)) (i k : Input) → mark is_spread i ≡ Ok (tt, k) → next_is is_fragment_name (next k) ≡ false → dots m n s i ≡ inline_since m (begin_of i.ahead) n s k
-  dots_inline n s i k read other = dots_is n s i ∙ rw (read, other) refl
+  pub spread_or_inline_inline : (n : ℕ) (s : Parser (SelectionTrees P)) (i k : Input) → mark is_spread i ≡ Ok (tt, k) → next_is is_fragment_name (next k) ≡ false → spread_or_inline m n s i ≡ inline_since m (begin_of i.ahead) n s k
+  spread_or_inline_inline n s i k read other = spread_or_inline_is n s i ∙ rw (read, other) refl
 
   -- what is left of an inline fragment that begins at this offset, by what was read of it
   abbrev pub inline_rest : ℕ → Parser (SelectionTrees P) → InlineRead P → Parser (SelectionTree P)
@@ -155,12 +155,12 @@ module _ {P : Type 0} (m : Meaning P) where
   unfolding o.selection
   selection_field n s i h = rw h refl
 
-  pub selection_dots : (n : ℕ) (s : Parser (SelectionTrees P)) (i : Input) → next_is is_name (next i) ≡ false → o.selection m n s i ≡ dots m n s i
+  pub selection_spread_or_inline : (n : ℕ) (s : Parser (SelectionTrees P)) (i : Input) → next_is is_name (next i) ≡ false → o.selection m n s i ≡ spread_or_inline m n s i
   unfolding o.selection
-  selection_dots n s i h = rw h refl
+  selection_spread_or_inline n s i h = rw h refl
 
 -- what a selection is of those in it, by what their reading came to
-pub ends_reads : {X A : Type 0} (view : X → A) (whole : Input → A → SelectionTree Place) (y : Outcome A) (r : Result X Stop) (z : Input) (found : Result Selection Stop)
+pub ends_reads : {X A : Type 0} (view : X → A) (whole : Input → A → SelectionTree Place) (y : Outcome A) (r : Result X ParseError) (z : Input) (found : Result Selection ParseError)
     → Reads view y r z → Ends view (whole z) r found → Reads selection_tree (and_then y (λ t w. done (whole w t) w)) found z
 ends_reads view whole y (Ok x) z (Ok s) is ends = rw (is, ends) refl
 ends_reads view whole y (Ok x) z (Err e) is ends = λ other. absurd (other ends)

@@ -14,8 +14,8 @@ use Rattle.read_tokens.specs.Input.{Token, Input, next, next_of, past, end_of}
 use Rattle.read_tokens.specs.declared.terminal.Terminal.{Terminal}
 use Rattle.read_tokens.specs.declared.terminal.Terminal.TheVariants as t
 use Rattle.read_tokens.proofs.NumberTokens.{int_text, float_text}
-use Rattle.read_grammar.specs.declared.stop.Stop.{Stop}
-use Rattle.read_grammar.specs.declared.stop.Stop.TheVariants.{Unexpected}
+use Rattle.read_grammar.specs.declared.parse_error.ParseError.{ParseError}
+use Rattle.read_grammar.specs.declared.parse_error.ParseError.TheVariants.{Unexpected}
 use Rattle.read_grammar.specs.Kinds.{is, next_is, is_int, is_float, is_string}
 use Rattle.read_grammar.specs.Meaning.{Meaning, begin_of, text_of}
 use Rattle.read_grammar.specs.Places.{place_in}

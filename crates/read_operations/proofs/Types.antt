@@ -5,8 +5,8 @@ use Rattle.tree_literals.specs.TypeTree as types
 use Rattle.tree_literals.specs.TypeQueries.{non_null_type}
 use Rattle.read_tokens.specs.Cursor.{skipped}
 use Rattle.read_tokens.specs.Input.{Input, next}
-use Rattle.read_grammar.specs.declared.stop.Stop.{Stop}
-use Rattle.read_grammar.specs.declared.stop.Stop.TheVariants.{Unexpected}
+use Rattle.read_grammar.specs.declared.parse_error.ParseError.{ParseError}
+use Rattle.read_grammar.specs.declared.parse_error.ParseError.TheVariants.{Unexpected}
 use Rattle.read_grammar.specs.Meaning.{Meaning}
 use Rattle.read_grammar.specs.Kinds.{next_is, is_name, is_bang, is_open_bracket, is_close_bracket}
 use Rattle.read_grammar.specs.Reading.{Parser, Outcome, and_then, mark, when, try, refuse, too_deep, between, ◌⊙◌, ◌<&>◌}
@@ -66,7 +66,7 @@ module _ {P : Type 0} (m : Meaning P) where
   pub type_marked : (n : ℕ) (i k : Input) (x y : TypeTree P) → unmarked_type m n i ≡ Ok (x, k) → next_is is_bang (next k) ≡ true → y ≡ non_null_type x → v.type m n i ≡ Ok (y, skipped k)
   type_marked n i k x y h bang e = type_is n i ∙ ap behind h ∙ rw bang (rw (mark_yes is_bang k bang) (ap (λ (z : TypeTree P). done z (skipped k)) (marked x ∙ sym e)))
 
-  pub type_stops : (n : ℕ) (i k : Input) (e : Stop) → unmarked_type m n i ≡ Err (e, k) → v.type m n i ≡ Err (e, k)
+  pub type_stops : (n : ℕ) (i k : Input) (e : ParseError) → unmarked_type m n i ≡ Err (e, k) → v.type m n i ≡ Err (e, k)
   type_stops n i k e h = type_is n i ∙ ap behind h
 
   pub unmarked_name : (n : ℕ) (i : Input) → next_is is_name (next i) ≡ true → unmarked_type m n i ≡ (NamedTree <&> v.name m) i

@@ -12,3 +12,4 @@ pub use Rattle.tree_literals.specs as in_literals
 pub use Rattle.read_grammar.specs.in_operations as in_operations
 pub use Rattle.read_grammar.specs.in_type_members as in_type_members
 pub use Rattle.read_grammar.specs.in_values as in_values
+pub mod StringBytes

@@ -1,4 +1,4 @@
--- Private: leads to `Derives` and `Says`. The lists within arguments and values.
+-- Private: leads to `Derives` and `Says`. The lists inside arguments and values.
 use Rattle.std.specs.Prelude.{ℕ, List}
 use Rattle.graphql_names.specs.Placed.{Placed, Text}
 use Rattle.tree_literals.specs.ValueTree.{ValueTree}

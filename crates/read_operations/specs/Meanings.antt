@@ -17,7 +17,7 @@ use Rattle.read_grammar.specs.Places.{meaning_in}
 use Rattle.read_grammar.specs.Reading.{Parser, take, unless, ◌<&>◌}
 use Rattle.read_grammar.specs.ValueReading as reading
 
--- the text for which a string stands (section 2.9.4)
+-- the text that a string stands for (section 2.9.4)
 abbrev pub string_by : Terminal → List ℕ → List ℕ
 string_by BlockString text = block_value text
 string_by _ text = string_value text
@@ -28,15 +28,15 @@ string_of t = string_by t.kind t.text
 abbrev pub in_file : FileId → Meaning Place
 in_file file = meaning_in string_of file.0
 
--- a field of an object in memory, as the rule reads it
+-- a field of an object in memory, as what the grammar's rule reads
 abbrev pub entry_view : Name × Node Value → Text Place × (Unit {0} × Placed Place (ValueTree Place))
 entry_view e = (name_tree e.0, (tt, node_tree value_tree e.1))
 
--- private layer: a string is read as the text for which it stands
+-- private layer: a string, read as the text that it stands for
 abbrev pub string_meant : Parser (List ℕ)
 string_meant = string_of <&> take is_string
 
--- private layer: what begins a list or an object
+-- private layer: whether a terminal begins a list or an object
 abbrev pub begins_nested : Terminal → Bool
 begins_nested = or is_open_bracket is_open_brace
 

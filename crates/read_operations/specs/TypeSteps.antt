@@ -1,4 +1,4 @@
--- Private: leads to `Derives` and `Says`. The parts of a type.
+-- Private: leads to `Derives` and `Says`. How parts of a type are read.
 use Rattle.std.specs.Prelude.{ℕ, ◌-◌}
 use Rattle.tree_literals.specs.TypeTree.{TypeTree, NamedTree}
 use Rattle.tree_literals.specs.TypeTree as types
@@ -12,6 +12,6 @@ module _ {P : Type 0} (m : Meaning P) where
   abbrev pub bracketed_type : ℕ → Parser (TypeTree P)
   bracketed_type n = (λ x. x.1.0) <&> opening is_open_bracket n ⊙ reading.type m (n - 1) ⊙ mark is_close_bracket
 
-  -- a type without the mark `!` behind it
+  -- a type without the mark `!` after it
   abbrev pub unmarked_type : ℕ → Parser (TypeTree P)
   unmarked_type n = when is_name (NamedTree <&> reading.name m) (types.ListTree <&> bracketed_type n)

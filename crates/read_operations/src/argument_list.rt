@@ -12,8 +12,8 @@ use crate::name_token::name;
 use crate::steps::{begin, expect, next_is_name, open, since};
 use crate::value_reader::placed_value;
 use graphql_names::{FileId, Node};
-use read_grammar::Stop;
-use read_tokens::{Source, Terminal};
+use read_grammar::ParseError;
+use read_tokens::{Terminal, TokenCursor};
 use std::alloc::Global;
 use tree_directives::Argument;
 
@@ -21,11 +21,11 @@ use tree_directives::Argument;
 #[tactic(auto, unfolding(read_grammar::specs::ValueReading::argument))]
 fn argument(
     alloc: Global,
-    tokens: &mut Source<'_>,
+    tokens: &mut TokenCursor<'_>,
     file: FileId,
     constant: bool,
     depth: usize,
-) -> Result<Argument, Stop>
+) -> Result<Argument, ParseError>
     ensures { Reads argument_tree (reading.argument (in_file file) constant depth tokens.old) result tokens.new }
 {
     let name = name(tokens, file)?;
@@ -37,11 +37,11 @@ fn argument(
 /// An argument with its place.
 fn placed_argument(
     alloc: Global,
-    tokens: &mut Source<'_>,
+    tokens: &mut TokenCursor<'_>,
     file: FileId,
     constant: bool,
     depth: usize,
-) -> Result<Node<Argument>, Stop>
+) -> Result<Node<Argument>, ParseError>
     ensures { Reads (node_tree argument_tree) (read.placed (in_file file) (reading.argument (in_file file) constant depth) tokens.old) result tokens.new }
 {
     let begin = begin(tokens);
@@ -53,15 +53,15 @@ fn placed_argument(
 /// One or more arguments.
 fn some_arguments(
     alloc: Global,
-    tokens: &mut Source<'_>,
+    tokens: &mut TokenCursor<'_>,
     file: FileId,
     constant: bool,
     depth: usize,
-) -> Result<Vec<Node<Argument>>, Stop>
+) -> Result<Vec<Node<Argument>>, ParseError>
     ensures { Reads (λ v. map (node_tree argument_tree) v.items) (lists.some_arguments (in_file file) constant depth tokens.old) result tokens.new }
 {
     if !next_is_name(tokens) {
-        return Err(Stop::Unexpected);
+        return Err(ParseError::Unexpected);
     }
     let mut found = Vec::new(alloc);
     'turns: while next_is_name(tokens) {
@@ -73,11 +73,11 @@ fn some_arguments(
 /// Arguments: `"(" Argument+ ")"`.
 pub fn arguments(
     alloc: Global,
-    tokens: &mut Source<'_>,
+    tokens: &mut TokenCursor<'_>,
     file: FileId,
     constant: bool,
     depth: usize,
-) -> Result<Vec<Node<Argument>>, Stop>
+) -> Result<Vec<Node<Argument>>, ParseError>
     ensures { Reads (λ v. map (node_tree argument_tree) v.items) (reading.arguments (in_file file) constant depth tokens.old) result tokens.new }
 {
     open(tokens, Terminal::OpenParen, depth)?;

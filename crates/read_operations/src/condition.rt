@@ -9,29 +9,29 @@ ghost use Rattle.read_operations.specs.Meanings.{in_file};
 
 use crate::{expect, name, next_is, next_is_name};
 use graphql_names::{FileId, Name};
-use read_grammar::Stop;
-use read_tokens::{Source, Terminal};
+use read_grammar::ParseError;
+use read_tokens::{Terminal, TokenCursor};
 
 /// Whether the next token is a Name but `on`.
-pub fn next_is_fragment_name(tokens: &Source<'_>) -> bool
+pub fn next_is_fragment_name(tokens: &TokenCursor<'_>) -> bool
     ensures { result ≡ kinds.next_is kinds.is_fragment_name (input.next tokens.now) }
 {
     next_is_name(tokens) && !next_is(tokens, Terminal::On)
 }
 
 /// FragmentName: `Name` but not `on`.
-pub fn fragment_name(tokens: &mut Source<'_>, file: FileId) -> Result<Name, Stop>
+pub fn fragment_name(tokens: &mut TokenCursor<'_>, file: FileId) -> Result<Name, ParseError>
     ensures { Reads name_tree (reading.fragment_name (in_file file) tokens.old) result tokens.new }
 {
     if !next_is_fragment_name(tokens) {
-        return Err(Stop::Unexpected);
+        return Err(ParseError::Unexpected);
     }
     name(tokens, file)
 }
 
 /// TypeCondition: `"on" Name`, its name.
 #[tactic(auto, unfolding(read_grammar::specs::OperationReading::type_condition))]
-pub fn type_condition(tokens: &mut Source<'_>, file: FileId) -> Result<Name, Stop>
+pub fn type_condition(tokens: &mut TokenCursor<'_>, file: FileId) -> Result<Name, ParseError>
     ensures { Reads name_tree (reading.type_condition (in_file file) tokens.old) result tokens.new }
 {
     expect(tokens, Terminal::On)?;

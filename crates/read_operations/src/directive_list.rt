@@ -11,8 +11,8 @@ use crate::argument_list::arguments;
 use crate::name_token::name;
 use crate::steps::{begin, expect, next_is, since};
 use graphql_names::{FileId, Node};
-use read_grammar::Stop;
-use read_tokens::{Source, Terminal};
+use read_grammar::ParseError;
+use read_tokens::{Terminal, TokenCursor};
 use std::alloc::Global;
 use tree_directives::{Directive, DirectiveList};
 
@@ -20,11 +20,11 @@ use tree_directives::{Directive, DirectiveList};
 #[tactic(auto, unfolding(read_grammar::specs::ValueReading::directive))]
 fn directive(
     alloc: Global,
-    tokens: &mut Source<'_>,
+    tokens: &mut TokenCursor<'_>,
     file: FileId,
     constant: bool,
     depth: usize,
-) -> Result<Directive, Stop>
+) -> Result<Directive, ParseError>
     ensures { Reads directive_tree (reading.directive (in_file file) constant depth tokens.old) result tokens.new }
 {
     expect(tokens, Terminal::At)?;
@@ -42,11 +42,11 @@ fn directive(
 /// A directive with its place.
 fn placed_directive(
     alloc: Global,
-    tokens: &mut Source<'_>,
+    tokens: &mut TokenCursor<'_>,
     file: FileId,
     constant: bool,
     depth: usize,
-) -> Result<Node<Directive>, Stop>
+) -> Result<Node<Directive>, ParseError>
     ensures { Reads (node_tree directive_tree) (read.placed (in_file file) (reading.directive (in_file file) constant depth) tokens.old) result tokens.new }
 {
     let begin = begin(tokens);
@@ -58,15 +58,15 @@ fn placed_directive(
 /// Directives: one or more.
 pub fn directives(
     alloc: Global,
-    tokens: &mut Source<'_>,
+    tokens: &mut TokenCursor<'_>,
     file: FileId,
     constant: bool,
     depth: usize,
-) -> Result<DirectiveList, Stop>
+) -> Result<DirectiveList, ParseError>
     ensures { Reads directives_tree (reading.directives (in_file file) constant depth tokens.old) result tokens.new }
 {
     if !next_is(tokens, Terminal::At) {
-        return Err(Stop::Unexpected);
+        return Err(ParseError::Unexpected);
     }
     let mut found = Vec::new(alloc);
     'turns: while next_is(tokens, Terminal::At) {

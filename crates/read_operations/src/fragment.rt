@@ -12,8 +12,8 @@ use crate::condition::{fragment_name, type_condition};
 use crate::selection_list::directives_and_set;
 use crate::{begin, directives_or_none, expect, since};
 use graphql_names::{FileId, Name, Node};
-use read_grammar::Stop;
-use read_tokens::{Source, Terminal};
+use read_grammar::ParseError;
+use read_tokens::{Terminal, TokenCursor};
 use std::alloc::Global;
 use tree_directives::DirectiveList;
 use tree_operations::{FragmentDefinition, Selection};
@@ -21,10 +21,10 @@ use tree_operations::{FragmentDefinition, Selection};
 /// `TypeCondition Directives? SelectionSet`
 fn condition_and_set(
     alloc: Global,
-    tokens: &mut Source<'_>,
+    tokens: &mut TokenCursor<'_>,
     file: FileId,
     depth: usize,
-) -> Result<(Name, (Option<DirectiveList>, Vec<Selection>)), Stop>
+) -> Result<(Name, (Option<DirectiveList>, Vec<Selection>)), ParseError>
     ensures { Reads condition_and_set_view (steps.condition_and_set (in_file file) depth tokens.old) result tokens.new }
 {
     let condition = type_condition(tokens, file)?;
@@ -36,10 +36,10 @@ fn condition_and_set(
 #[tactic(auto, unfolding(read_grammar::specs::OperationReading::fragment_definition))]
 pub fn fragment_definition(
     alloc: Global,
-    tokens: &mut Source<'_>,
+    tokens: &mut TokenCursor<'_>,
     file: FileId,
     depth: usize,
-) -> Result<FragmentDefinition, Stop>
+) -> Result<FragmentDefinition, ParseError>
     ensures { Reads fragment_tree (reading.fragment_definition (in_file file) depth tokens.old) result tokens.new }
 {
     expect(tokens, Terminal::Fragment)?;
@@ -58,10 +58,10 @@ pub fn fragment_definition(
 /// A fragment with its place.
 pub fn placed_fragment(
     alloc: Global,
-    tokens: &mut Source<'_>,
+    tokens: &mut TokenCursor<'_>,
     file: FileId,
     depth: usize,
-) -> Result<Node<FragmentDefinition>, Stop>
+) -> Result<Node<FragmentDefinition>, ParseError>
     ensures { Reads (node_tree fragment_tree) (read.placed (in_file file) (reading.fragment_definition (in_file file) depth) tokens.old) result tokens.new }
 {
     let begin = begin(tokens);

@@ -41,5 +41,5 @@ pub use value_reader::{default_value, placed_value};
 pub use value_token::{enum_value, variable};
 pub use variable_list::variable_definitions;
 
-// Of the crates beneath, for those above.
-pub use read_grammar::{Definition, Document, SourceFile, Stop};
+// Re-exported from the crates below, for the crates above.
+pub use read_grammar::{Definition, Document, ParseError, SourceFile};

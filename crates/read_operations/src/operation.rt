@@ -16,14 +16,14 @@ use crate::selection_list::{directives_and_set, selection_set};
 use crate::variable_list::variable_definitions;
 use crate::{begin, directives_or_none, name, next_is, next_is_name, operation_type, since};
 use graphql_names::{FileId, Name, Node};
-use read_grammar::Stop;
-use read_tokens::{Source, Terminal};
+use read_grammar::ParseError;
+use read_tokens::{Terminal, TokenCursor};
 use std::alloc::Global;
 use tree_directives::DirectiveList;
 use tree_operations::{OperationDefinition, OperationType, Selection, VariableDefinition};
 
 /// Name, or nothing.
-fn optional_name(tokens: &mut Source<'_>, file: FileId) -> Result<Option<Name>, Stop>
+fn optional_name(tokens: &mut TokenCursor<'_>, file: FileId) -> Result<Option<Name>, ParseError>
     ensures { Reads (option_map name_tree) (read.try kinds.is_name (values.name (in_file file)) tokens.old) result tokens.new }
 {
     if !next_is_name(tokens) {
@@ -35,10 +35,10 @@ fn optional_name(tokens: &mut Source<'_>, file: FileId) -> Result<Option<Name>, 
 /// VariableDefinitions, or nothing.
 fn optional_variables(
     alloc: Global,
-    tokens: &mut Source<'_>,
+    tokens: &mut TokenCursor<'_>,
     file: FileId,
     depth: usize,
-) -> Result<Option<Vec<Node<VariableDefinition>>>, Stop>
+) -> Result<Option<Vec<Node<VariableDefinition>>>, ParseError>
     ensures { Reads variables_view (steps.optional_variables (in_file file) depth tokens.old) result tokens.new }
 {
     if !next_is(tokens, Terminal::OpenParen) {
@@ -47,7 +47,7 @@ fn optional_variables(
     Ok(Some(variable_definitions(alloc, tokens, file, depth)?))
 }
 
-/// The definitions of variables, of which there are none where they are left out.
+/// The definitions of variables; none if they are left out.
 fn variables_or_none(
     alloc: Global,
     found: Option<Vec<Node<VariableDefinition>>>,
@@ -60,13 +60,13 @@ fn variables_or_none(
     }
 }
 
-/// A query that is its selections alone.
+/// A query that is written as its selection set only.
 fn short_operation(
     alloc: Global,
-    tokens: &mut Source<'_>,
+    tokens: &mut TokenCursor<'_>,
     file: FileId,
     depth: usize,
-) -> Result<OperationDefinition, Stop>
+) -> Result<OperationDefinition, ParseError>
     ensures { Reads operation_tree (steps.short_operation (in_file file) depth tokens.old) result tokens.new }
 {
     let selection_set = selection_set(alloc, tokens, file, depth)?;
@@ -82,7 +82,7 @@ fn short_operation(
 /// `VariableDefinitions? Directives? SelectionSet`
 fn variables_and_set(
     alloc: Global,
-    tokens: &mut Source<'_>,
+    tokens: &mut TokenCursor<'_>,
     file: FileId,
     depth: usize,
 ) -> Result<
@@ -90,7 +90,7 @@ fn variables_and_set(
         Option<Vec<Node<VariableDefinition>>>,
         (Option<DirectiveList>, Vec<Selection>),
     ),
-    Stop,
+    ParseError,
 >
     ensures { Reads variables_and_set_view (steps.variables_and_set (in_file file) depth tokens.old) result tokens.new }
 {
@@ -102,10 +102,10 @@ fn variables_and_set(
 /// `OperationType Name? VariableDefinitions? Directives? SelectionSet`
 fn full_operation(
     alloc: Global,
-    tokens: &mut Source<'_>,
+    tokens: &mut TokenCursor<'_>,
     file: FileId,
     depth: usize,
-) -> Result<OperationDefinition, Stop>
+) -> Result<OperationDefinition, ParseError>
     ensures { Reads operation_tree (steps.full_operation (in_file file) depth tokens.old) result tokens.new }
 {
     let operation_type = operation_type(tokens)?;
@@ -120,13 +120,13 @@ fn full_operation(
     })
 }
 
-/// OperationDefinition: its selections alone, or with its type in front.
+/// OperationDefinition: its selection set only, or with its type first.
 pub fn operation_definition(
     alloc: Global,
-    tokens: &mut Source<'_>,
+    tokens: &mut TokenCursor<'_>,
     file: FileId,
     depth: usize,
-) -> Result<OperationDefinition, Stop>
+) -> Result<OperationDefinition, ParseError>
     ensures { Reads operation_tree (reading.operation_definition (in_file file) depth tokens.old) result tokens.new }
 {
     if next_is(tokens, Terminal::OpenBrace) {
@@ -138,10 +138,10 @@ pub fn operation_definition(
 /// An operation with its place.
 pub fn placed_operation(
     alloc: Global,
-    tokens: &mut Source<'_>,
+    tokens: &mut TokenCursor<'_>,
     file: FileId,
     depth: usize,
-) -> Result<Node<OperationDefinition>, Stop>
+) -> Result<Node<OperationDefinition>, ParseError>
     ensures { Reads (node_tree operation_tree) (read.placed (in_file file) (reading.operation_definition (in_file file) depth) tokens.old) result tokens.new }
 {
     let begin = begin(tokens);

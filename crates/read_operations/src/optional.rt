@@ -17,8 +17,8 @@ use crate::steps::next_is;
 use crate::string_token::{description, next_is_string};
 use crate::value_reader::default_value;
 use graphql_names::{FileId, Node, NodeStr};
-use read_grammar::Stop;
-use read_tokens::{Source, Terminal};
+use read_grammar::ParseError;
+use read_tokens::{Terminal, TokenCursor};
 use std::alloc::Global;
 use tree_directives::{Argument, DirectiveList};
 use tree_literals::Value;
@@ -26,9 +26,9 @@ use tree_literals::Value;
 /// Description, or nothing.
 pub fn optional_description(
     alloc: Global,
-    tokens: &mut Source<'_>,
+    tokens: &mut TokenCursor<'_>,
     file: FileId,
-) -> Result<Option<NodeStr>, Stop>
+) -> Result<Option<NodeStr>, ParseError>
     ensures { Reads (option_map text_tree) (read.try kinds.is_string (types.description (in_file file)) tokens.old) result tokens.new }
 {
     if !next_is_string(tokens) {
@@ -40,10 +40,10 @@ pub fn optional_description(
 /// DefaultValue, or nothing.
 pub fn optional_default(
     alloc: Global,
-    tokens: &mut Source<'_>,
+    tokens: &mut TokenCursor<'_>,
     file: FileId,
     depth: usize,
-) -> Result<Option<Node<Value>>, Stop>
+) -> Result<Option<Node<Value>>, ParseError>
     ensures { Reads (option_map (node_tree value_tree)) (read.try kinds.is_equals (reading.default_value (in_file file) depth) tokens.old) result tokens.new }
 {
     if !next_is(tokens, Terminal::Equals) {
@@ -55,11 +55,11 @@ pub fn optional_default(
 /// Arguments, or nothing.
 pub fn optional_arguments(
     alloc: Global,
-    tokens: &mut Source<'_>,
+    tokens: &mut TokenCursor<'_>,
     file: FileId,
     constant: bool,
     depth: usize,
-) -> Result<Option<Vec<Node<Argument>>>, Stop>
+) -> Result<Option<Vec<Node<Argument>>>, ParseError>
     ensures { Reads (option_map (λ v. map (node_tree argument_tree) v.items)) (read.try kinds.is_open_paren (reading.arguments (in_file file) constant depth) tokens.old) result tokens.new }
 {
     if !next_is(tokens, Terminal::OpenParen) {
@@ -71,11 +71,11 @@ pub fn optional_arguments(
 /// Directives, or nothing.
 pub fn optional_directives(
     alloc: Global,
-    tokens: &mut Source<'_>,
+    tokens: &mut TokenCursor<'_>,
     file: FileId,
     constant: bool,
     depth: usize,
-) -> Result<Option<DirectiveList>, Stop>
+) -> Result<Option<DirectiveList>, ParseError>
     ensures { Reads (option_map directives_tree) (read.try kinds.is_at (reading.directives (in_file file) constant depth) tokens.old) result tokens.new }
 {
     if !next_is(tokens, Terminal::At) {
@@ -84,7 +84,7 @@ pub fn optional_directives(
     Ok(Some(directives(alloc, tokens, file, constant, depth)?))
 }
 
-/// The arguments, of which there are none where they are left out.
+/// The arguments; none if they are left out.
 pub fn arguments_or_none(alloc: Global, found: Option<Vec<Node<Argument>>>) -> Vec<Node<Argument>>
     ensures { map (node_tree argument_tree) result.items ≡ unwrap_or (option_map (λ v. map (node_tree argument_tree) v.items) found) [] }
 {
@@ -94,8 +94,8 @@ pub fn arguments_or_none(alloc: Global, found: Option<Vec<Node<Argument>>>) -> V
     }
 }
 
-/// The directives, of which there are none where they are left out.
-// Apart from the call that reads: the grammar tells whether a part is there, the tree has a list in any case.
+/// The directives; none if they are left out.
+// Not done by the call that reads: the grammar distinguishes whether a part is there, the tree has a list in both cases.
 pub fn directives_or_none(alloc: Global, found: Option<DirectiveList>) -> DirectiveList
     ensures { directives_tree result ≡ unwrap_or (option_map directives_tree found) [] }
 {

@@ -1,5 +1,5 @@
-//! Selections (sections 2.4, 2.5 and 2.8). What holds much is not inlined, so that a level of selections takes the stack of
-//! its kind alone.
+//! Selections (sections 2.4, 2.5 and 2.8). Functions with large locals are not inlined, so that a level of selections takes
+//! only the stack of its own kind.
 ghost use Rattle.std.specs.Prelude.{◌≡◌, map};
 ghost use Rattle.std.specs.Option.{option_map};
 ghost use Rattle.tree_directives.specs.DirectiveTree.{directives_tree};
@@ -18,8 +18,8 @@ use crate::selection_parts::{
 };
 use crate::{begin, expect, next_is, next_is_name, open, optional_directives, since};
 use graphql_names::FileId;
-use read_grammar::Stop;
-use read_tokens::{Source, Terminal};
+use read_grammar::ParseError;
+use read_tokens::{Terminal, TokenCursor};
 use std::alloc::Global;
 use tree_directives::DirectiveList;
 use tree_operations::Selection;
@@ -28,10 +28,10 @@ use tree_operations::Selection;
 #[cycle(selection)]
 fn optional_selection_set(
     alloc: Global,
-    tokens: &mut Source<'_>,
+    tokens: &mut TokenCursor<'_>,
     file: FileId,
     depth: usize,
-) -> Result<Option<Vec<Selection>>, Stop>
+) -> Result<Option<Vec<Selection>>, ParseError>
     ensures { Reads set_view (steps.optional_set (in_file file) depth tokens.old) result tokens.new }
 {
     if !next_is(tokens, Terminal::OpenBrace) {
@@ -41,16 +41,16 @@ fn optional_selection_set(
 }
 
 /// Field: `Alias? Name Arguments? Directives? SelectionSet?`, with its place.
-// What stands before the selections is read by a call of its own, and `field_with` takes it over with whatever reading the
-// selections came to: nothing large is let go here, so that it lies on the stack once.
+// What comes before the selections is read by a call of its own, and `field_with` takes it together with the result of reading
+// the selections: nothing large is dropped here, so that it is on the stack only once.
 #[cycle(selection)]
 #[inline(never)]
 fn placed_field(
     alloc: Global,
-    tokens: &mut Source<'_>,
+    tokens: &mut TokenCursor<'_>,
     file: FileId,
     depth: usize,
-) -> Result<Selection, Stop>
+) -> Result<Selection, ParseError>
     ensures { Reads selection_tree (reading.field (in_file file) depth (reading.selection_set (in_file file) depth) tokens.old) result tokens.new }
 {
     let begin = begin(tokens);
@@ -60,17 +60,17 @@ fn placed_field(
     field_with(alloc, place, head, selections)
 }
 
-/// InlineFragment, of which the dots are read that begin it: `TypeCondition? Directives? SelectionSet`.
-// As `placed_field`.
+/// InlineFragment whose dots have been read: `TypeCondition? Directives? SelectionSet`.
+// Split into calls as `placed_field` is.
 #[cycle(selection)]
 #[inline(never)]
 fn placed_inline(
     alloc: Global,
-    tokens: &mut Source<'_>,
+    tokens: &mut TokenCursor<'_>,
     file: FileId,
     begin: usize,
     depth: usize,
-) -> Result<Selection, Stop>
+) -> Result<Selection, ParseError>
     ensures { Reads selection_tree (steps.inline_since (in_file file) begin depth (reading.selection_set (in_file file) depth) tokens.old) result tokens.new }
 {
     let head = inline_head(alloc, tokens, file, depth)?;
@@ -81,13 +81,13 @@ fn placed_inline(
 
 /// FragmentSpread or InlineFragment: what begins with `...`.
 #[cycle(selection)]
-fn dots(
+fn spread_or_inline(
     alloc: Global,
-    tokens: &mut Source<'_>,
+    tokens: &mut TokenCursor<'_>,
     file: FileId,
     depth: usize,
-) -> Result<Selection, Stop>
-    ensures { Reads selection_tree (steps.dots (in_file file) depth (reading.selection_set (in_file file) depth) tokens.old) result tokens.new }
+) -> Result<Selection, ParseError>
+    ensures { Reads selection_tree (steps.spread_or_inline (in_file file) depth (reading.selection_set (in_file file) depth) tokens.old) result tokens.new }
 {
     let begin = begin(tokens);
     expect(tokens, Terminal::Spread)?;
@@ -101,30 +101,30 @@ fn dots(
 #[cycle(selection)]
 fn selection(
     alloc: Global,
-    tokens: &mut Source<'_>,
+    tokens: &mut TokenCursor<'_>,
     file: FileId,
     depth: usize,
-) -> Result<Selection, Stop>
+) -> Result<Selection, ParseError>
     ensures { Reads selection_tree (reading.selection (in_file file) depth (reading.selection_set (in_file file) depth) tokens.old) result tokens.new }
 {
     if next_is_name(tokens) {
         return placed_field(alloc, tokens, file, depth);
     }
-    dots(alloc, tokens, file, depth)
+    spread_or_inline(alloc, tokens, file, depth)
 }
 
 /// One or more selections.
 #[cycle(selection)]
 fn some_selections(
     alloc: Global,
-    tokens: &mut Source<'_>,
+    tokens: &mut TokenCursor<'_>,
     file: FileId,
     depth: usize,
-) -> Result<Vec<Selection>, Stop>
+) -> Result<Vec<Selection>, ParseError>
     ensures { Reads (λ v. map selection_tree v.items) (steps.some_selections (in_file file) depth tokens.old) result tokens.new }
 {
     if !begins_selection(tokens) {
-        return Err(Stop::Unexpected);
+        return Err(ParseError::Unexpected);
     }
     let mut found = Vec::new(alloc);
     'turns: while begins_selection(tokens) {
@@ -137,10 +137,10 @@ fn some_selections(
 #[cycle(selection)]
 pub fn selection_set(
     alloc: Global,
-    tokens: &mut Source<'_>,
+    tokens: &mut TokenCursor<'_>,
     file: FileId,
     depth: usize,
-) -> Result<Vec<Selection>, Stop>
+) -> Result<Vec<Selection>, ParseError>
     ensures { Reads (λ v. selection_trees selection_tree v.items) (reading.selection_set (in_file file) depth tokens.old) result tokens.new }
 {
     open(tokens, Terminal::OpenBrace, depth)?;
@@ -152,10 +152,10 @@ pub fn selection_set(
 /// `Directives? SelectionSet`
 pub fn directives_and_set(
     alloc: Global,
-    tokens: &mut Source<'_>,
+    tokens: &mut TokenCursor<'_>,
     file: FileId,
     depth: usize,
-) -> Result<(Option<DirectiveList>, Vec<Selection>), Stop>
+) -> Result<(Option<DirectiveList>, Vec<Selection>), ParseError>
     ensures { Reads (λ x. (option_map directives_tree x.0, selection_trees selection_tree x.1.items)) (steps.directives_and_set (in_file file) depth (reading.selection_set (in_file file) depth) tokens.old) result tokens.new }
 {
     let directives = optional_directives(alloc, tokens, file, false, depth)?;
@@ -167,10 +167,10 @@ pub fn directives_and_set(
 #[tactic(auto, unfolding(read_grammar::specs::OperationReading::selections, read_grammar::specs::OperationReading::selection_list))]
 pub fn selections(
     alloc: Global,
-    tokens: &mut Source<'_>,
+    tokens: &mut TokenCursor<'_>,
     file: FileId,
     depth: usize,
-) -> Result<Vec<Selection>, Stop>
+) -> Result<Vec<Selection>, ParseError>
     ensures { Reads (λ v. selection_trees selection_tree v.items) (reading.selections (in_file file) depth tokens.old) result tokens.new }
 {
     let found = some_selections(alloc, tokens, file, depth)?;

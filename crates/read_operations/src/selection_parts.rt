@@ -19,22 +19,25 @@ use crate::{
     optional_directives, since,
 };
 use graphql_names::{FileId, Name, Node, SourceSpan};
-use read_grammar::Stop;
-use read_tokens::{Source, Terminal};
+use read_grammar::ParseError;
+use read_tokens::{Terminal, TokenCursor};
 use std::alloc::Global;
 use tree_directives::{Argument, DirectiveList};
 use tree_operations::{Field, FragmentSpread, InlineFragment, Selection};
 
 /// Whether a selection may begin with the next token.
-pub fn begins_selection(tokens: &Source<'_>) -> bool
+pub fn begins_selection(tokens: &TokenCursor<'_>) -> bool
     ensures { result ≡ kinds.next_is begins.begins_selection (input.next tokens.now) }
 {
     next_is_name(tokens) || next_is(tokens, Terminal::Spread)
 }
 
-/// `(Name ":")? Name`: an alias, where a colon follows the first name, and a name.
+/// `(Name ":")? Name`: an alias, if a colon follows the first name, and a name.
 #[tactic(auto, unfolding(read_grammar::specs::OperationReading::alias_and_name))]
-pub fn alias_and_name(tokens: &mut Source<'_>, file: FileId) -> Result<(Option<Name>, Name), Stop>
+pub fn alias_and_name(
+    tokens: &mut TokenCursor<'_>,
+    file: FileId,
+) -> Result<(Option<Name>, Name), ParseError>
     ensures { Reads steps.alias_view (reading.alias_and_name (in_file file) tokens.old) result tokens.new }
 {
     let first = name(tokens, file)?;
@@ -47,7 +50,10 @@ pub fn alias_and_name(tokens: &mut Source<'_>, file: FileId) -> Result<(Option<N
 }
 
 /// TypeCondition, or nothing.
-fn optional_condition(tokens: &mut Source<'_>, file: FileId) -> Result<Option<Name>, Stop>
+fn optional_condition(
+    tokens: &mut TokenCursor<'_>,
+    file: FileId,
+) -> Result<Option<Name>, ParseError>
     ensures { Reads (option_map name_tree) (read.try kinds.is_on (reading.type_condition (in_file file)) tokens.old) result tokens.new }
 {
     if !next_is(tokens, Terminal::On) {
@@ -59,10 +65,10 @@ fn optional_condition(tokens: &mut Source<'_>, file: FileId) -> Result<Option<Na
 /// `FragmentName Directives?`
 fn spread(
     alloc: Global,
-    tokens: &mut Source<'_>,
+    tokens: &mut TokenCursor<'_>,
     file: FileId,
     depth: usize,
-) -> Result<FragmentSpread, Stop>
+) -> Result<FragmentSpread, ParseError>
     ensures { Reads steps.spread_view (steps.spread_parts (in_file file) depth tokens.old) result tokens.new }
 {
     let fragment_name = fragment_name(tokens, file)?;
@@ -73,16 +79,16 @@ fn spread(
     })
 }
 
-/// FragmentSpread, of which the dots are read that begin it.
-// It is not inlined, so that what it holds takes no stack at each level of selections.
+/// FragmentSpread whose dots have been read.
+// Not inlined, so that its locals take no stack at each level of selections.
 #[inline(never)]
 pub fn placed_spread(
     alloc: Global,
-    tokens: &mut Source<'_>,
+    tokens: &mut TokenCursor<'_>,
     file: FileId,
     begin: usize,
     depth: usize,
-) -> Result<Selection, Stop>
+) -> Result<Selection, ParseError>
     ensures { Reads selection_tree (steps.spread_since (in_file file) begin depth tokens.old) result tokens.new }
 {
     let found = spread(alloc, tokens, file, depth)?;
@@ -97,14 +103,14 @@ pub type FieldHead = (
 );
 
 /// `Alias? Name Arguments? Directives?`
-// It and those below are not inlined, so that what they hold takes no stack at each level of selections.
+// This function and those below are not inlined, so that their locals take no stack at each level of selections.
 #[inline(never)]
 pub fn field_head(
     alloc: Global,
-    tokens: &mut Source<'_>,
+    tokens: &mut TokenCursor<'_>,
     file: FileId,
     depth: usize,
-) -> Result<FieldHead, Stop>
+) -> Result<FieldHead, ParseError>
     ensures { Reads field_head_view (steps.field_head (in_file file) depth tokens.old) result tokens.new }
 {
     let names = alias_and_name(tokens, file)?;
@@ -119,8 +125,8 @@ pub fn field_with(
     alloc: Global,
     place: SourceSpan,
     head: FieldHead,
-    selections: Result<Option<Vec<Selection>>, Stop>,
-) -> Result<Selection, Stop>
+    selections: Result<Option<Vec<Selection>>, ParseError>,
+) -> Result<Selection, ParseError>
     ensures { Ends set_view (steps.field_with (Some place) (field_head_view head)) selections result }
 {
     let selections = selections?;
@@ -142,10 +148,10 @@ pub type InlineHead = (Option<Name>, Option<DirectiveList>);
 #[inline(never)]
 pub fn inline_head(
     alloc: Global,
-    tokens: &mut Source<'_>,
+    tokens: &mut TokenCursor<'_>,
     file: FileId,
     depth: usize,
-) -> Result<InlineHead, Stop>
+) -> Result<InlineHead, ParseError>
     ensures { Reads inline_head_view (steps.inline_head (in_file file) depth tokens.old) result tokens.new }
 {
     let type_condition = optional_condition(tokens, file)?;
@@ -159,8 +165,8 @@ pub fn inline_with(
     alloc: Global,
     place: SourceSpan,
     head: InlineHead,
-    selections: Result<Vec<Selection>, Stop>,
-) -> Result<Selection, Stop>
+    selections: Result<Vec<Selection>, ParseError>,
+) -> Result<Selection, ParseError>
     ensures { Ends selections_view (steps.inline_with (Some place) (inline_head_view head)) selections result }
 {
     let selection_set = selections?;
@@ -173,7 +179,7 @@ pub fn inline_with(
     Ok(Selection::InlineFragment(Node::new_parsed(alloc, found, place)?))
 }
 
-/// The selections, of which there are none where they are left out.
+/// The selections; none if they are left out.
 pub fn selections_or_none(alloc: Global, found: Option<Vec<Selection>>) -> Vec<Selection>
     ensures { selection_trees selection_tree result.items ≡ unwrap_or (option_map (λ v. selection_trees selection_tree v.items) found) no_selections }
 {

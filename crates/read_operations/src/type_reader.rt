@@ -11,8 +11,8 @@ ghost use Rattle.read_operations.specs.TypeSteps.{bracketed_type, unmarked_type}
 use crate::name_token::name;
 use crate::steps::{begin, expect, next_is, next_is_name, open, since};
 use graphql_names::{FileId, Node};
-use read_grammar::Stop;
-use read_tokens::{Source, Terminal};
+use read_grammar::ParseError;
+use read_tokens::{Terminal, TokenCursor};
 use std::alloc::Global;
 use tree_literals::Type;
 
@@ -20,10 +20,10 @@ use tree_literals::Type;
 #[cycle(ty)]
 fn bracketed(
     alloc: Global,
-    tokens: &mut Source<'_>,
+    tokens: &mut TokenCursor<'_>,
     file: FileId,
     depth: usize,
-) -> Result<Type, Stop>
+) -> Result<Type, ParseError>
     ensures { Reads type_tree (bracketed_type (in_file file) depth tokens.old) result tokens.new }
 {
     open(tokens, Terminal::OpenBracket, depth)?;
@@ -37,10 +37,10 @@ fn bracketed(
 #[tactic(auto, using(tree_literals::proofs::Trees::type_tree_rules))]
 fn unmarked(
     alloc: Global,
-    tokens: &mut Source<'_>,
+    tokens: &mut TokenCursor<'_>,
     file: FileId,
     depth: usize,
-) -> Result<Type, Stop>
+) -> Result<Type, ParseError>
     ensures { Reads type_tree (unmarked_type (in_file file) depth tokens.old) result tokens.new }
 {
     if next_is_name(tokens) {
@@ -52,7 +52,12 @@ fn unmarked(
 
 /// Type: `(Name / "[" Type "]") "!"?`.
 #[cycle(ty)]
-pub fn ty(alloc: Global, tokens: &mut Source<'_>, file: FileId, depth: usize) -> Result<Type, Stop>
+pub fn ty(
+    alloc: Global,
+    tokens: &mut TokenCursor<'_>,
+    file: FileId,
+    depth: usize,
+) -> Result<Type, ParseError>
     ensures { Reads type_tree (reading.type (in_file file) depth tokens.old) result tokens.new }
 {
     let found = unmarked(alloc, tokens, file, depth)?;
@@ -66,10 +71,10 @@ pub fn ty(alloc: Global, tokens: &mut Source<'_>, file: FileId, depth: usize) ->
 /// A type with its place.
 pub fn placed_type(
     alloc: Global,
-    tokens: &mut Source<'_>,
+    tokens: &mut TokenCursor<'_>,
     file: FileId,
     depth: usize,
-) -> Result<Node<Type>, Stop>
+) -> Result<Node<Type>, ParseError>
     ensures { Reads (node_tree type_tree) (read.placed (in_file file) (reading.type (in_file file) depth) tokens.old) result tokens.new }
 {
     let begin = begin(tokens);

@@ -15,13 +15,13 @@ use crate::name_token::name;
 use crate::steps::{begin, expect, is_name, next_is, next_is_name, since};
 use crate::value_token::plain_value;
 use graphql_names::{FileId, Name, Node};
-use read_grammar::Stop;
-use read_tokens::{Source, Terminal};
+use read_grammar::ParseError;
+use read_tokens::{Terminal, TokenCursor};
 use std::alloc::Global;
 use tree_literals::Value;
 
 /// Whether a value may begin with the next token.
-fn begins_value(tokens: &Source<'_>) -> bool
+fn begins_value(tokens: &TokenCursor<'_>) -> bool
     ensures { result ≡ kinds.next_is begins.begins_value (input.next tokens.now) }
 {
     match tokens.peek() {
@@ -43,11 +43,11 @@ fn begins_value(tokens: &Source<'_>) -> bool
 #[cycle(value)]
 pub fn placed_value(
     alloc: Global,
-    tokens: &mut Source<'_>,
+    tokens: &mut TokenCursor<'_>,
     file: FileId,
     constant: bool,
     depth: usize,
-) -> Result<Node<Value>, Stop>
+) -> Result<Node<Value>, ParseError>
     ensures { Reads (node_tree value_tree) (read.placed (in_file file) (reading.value (in_file file) constant depth) tokens.old) result tokens.new }
 {
     let begin = begin(tokens);
@@ -57,16 +57,16 @@ pub fn placed_value(
 }
 
 /// Any number of values.
-// Neither this nor `object_fields` is inlined, so that a level of a value takes the stack of one of them.
+// Neither this function nor `object_fields` is inlined, so that a level of a value takes the stack of only one of them.
 #[cycle(value)]
 #[inline(never)]
 fn values(
     alloc: Global,
-    tokens: &mut Source<'_>,
+    tokens: &mut TokenCursor<'_>,
     file: FileId,
     constant: bool,
     depth: usize,
-) -> Result<Vec<Node<Value>>, Stop>
+) -> Result<Vec<Node<Value>>, ParseError>
     ensures { Reads (λ v. map (node_tree value_tree) v.items) (lists.values (in_file file) constant depth tokens.old) result tokens.new }
 {
     let mut found = Vec::new(alloc);
@@ -81,11 +81,11 @@ fn values(
 #[tactic(auto, unfolding(read_grammar::specs::ValueReading::list_value))]
 fn list_value(
     alloc: Global,
-    tokens: &mut Source<'_>,
+    tokens: &mut TokenCursor<'_>,
     file: FileId,
     constant: bool,
     depth: usize,
-) -> Result<Value, Stop>
+) -> Result<Value, ParseError>
     ensures { Reads value_tree (reading.list_value (in_file file) (reading.value (in_file file) constant depth) tokens.old) result tokens.new }
 {
     expect(tokens, Terminal::OpenBracket)?;
@@ -99,11 +99,11 @@ fn list_value(
 #[tactic(auto, unfolding(read_grammar::specs::ValueReading::object_field))]
 fn object_field(
     alloc: Global,
-    tokens: &mut Source<'_>,
+    tokens: &mut TokenCursor<'_>,
     file: FileId,
     constant: bool,
     depth: usize,
-) -> Result<(Name, Node<Value>), Stop>
+) -> Result<(Name, Node<Value>), ParseError>
     ensures { Reads entry_view (reading.object_field (in_file file) (reading.value (in_file file) constant depth) tokens.old) result tokens.new }
 {
     let name = name(tokens, file)?;
@@ -117,11 +117,11 @@ fn object_field(
 #[inline(never)]
 fn object_fields(
     alloc: Global,
-    tokens: &mut Source<'_>,
+    tokens: &mut TokenCursor<'_>,
     file: FileId,
     constant: bool,
     depth: usize,
-) -> Result<Vec<(Name, Node<Value>)>, Stop>
+) -> Result<Vec<(Name, Node<Value>)>, ParseError>
     ensures { Reads (λ v. map entry_view v.items) (lists.object_fields (in_file file) constant depth tokens.old) result tokens.new }
 {
     let mut found = Vec::new(alloc);
@@ -136,11 +136,11 @@ fn object_fields(
 #[tactic(auto, unfolding(read_grammar::specs::ValueReading::object_value))]
 fn object_value(
     alloc: Global,
-    tokens: &mut Source<'_>,
+    tokens: &mut TokenCursor<'_>,
     file: FileId,
     constant: bool,
     depth: usize,
-) -> Result<Value, Stop>
+) -> Result<Value, ParseError>
     ensures { Reads value_tree (reading.object_value (in_file file) (reading.value (in_file file) constant depth) tokens.old) result tokens.new }
 {
     expect(tokens, Terminal::OpenBrace)?;
@@ -150,7 +150,7 @@ fn object_value(
 }
 
 /// Whether the next token begins a list or an object.
-fn opens_value(tokens: &Source<'_>) -> bool
+fn opens_value(tokens: &TokenCursor<'_>) -> bool
     ensures { result ≡ kinds.next_is begins_nested (input.next tokens.now) }
 {
     matches!(
@@ -159,22 +159,22 @@ fn opens_value(tokens: &Source<'_>) -> bool
     )
 }
 
-/// Value: one of its forms. Where `constant`, variables are refused.
+/// Value: one of its forms. If `constant`, variables are refused.
 #[cycle(value)]
 fn value(
     alloc: Global,
-    tokens: &mut Source<'_>,
+    tokens: &mut TokenCursor<'_>,
     file: FileId,
     constant: bool,
     depth: usize,
-) -> Result<Value, Stop>
+) -> Result<Value, ParseError>
     ensures { Reads value_tree (reading.value (in_file file) constant depth tokens.old) result tokens.new }
 {
     if !opens_value(tokens) {
         return plain_value(alloc, tokens, file, constant);
     }
     if depth == 0 {
-        return Err(Stop::Nesting);
+        return Err(ParseError::Nesting);
     }
     if next_is(tokens, Terminal::OpenBracket) {
         return list_value(alloc, tokens, file, constant, depth - 1);
@@ -186,10 +186,10 @@ fn value(
 #[tactic(auto, unfolding(read_grammar::specs::ValueReading::default_value))]
 pub fn default_value(
     alloc: Global,
-    tokens: &mut Source<'_>,
+    tokens: &mut TokenCursor<'_>,
     file: FileId,
     depth: usize,
-) -> Result<Node<Value>, Stop>
+) -> Result<Node<Value>, ParseError>
     ensures { Reads (node_tree value_tree) (reading.default_value (in_file file) depth tokens.old) result tokens.new }
 {
     expect(tokens, Terminal::Equals)?;

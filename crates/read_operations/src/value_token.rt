@@ -14,32 +14,36 @@ use crate::number_token::{float_value, int_value};
 use crate::steps::{expect, is_name, next_is};
 use crate::string_token::{next_is_string, string_value};
 use graphql_names::{FileId, Name};
-use read_grammar::Stop;
-use read_tokens::{Source, Terminal};
+use read_grammar::ParseError;
+use read_tokens::{Terminal, TokenCursor};
 use std::alloc::Global;
 use tree_literals::Value;
 
 /// Variable: `"$" Name`, its name.
 #[tactic(auto, unfolding(read_grammar::specs::ValueReading::variable))]
-pub fn variable(tokens: &mut Source<'_>, file: FileId) -> Result<Name, Stop>
+pub fn variable(tokens: &mut TokenCursor<'_>, file: FileId) -> Result<Name, ParseError>
     ensures { Reads name_tree (reading.variable (in_file file) tokens.old) result tokens.new }
 {
     expect(tokens, Terminal::Dollar)?;
     name(tokens, file)
 }
 
-/// A variable as a value, which is refused where `constant`.
-fn variable_value(tokens: &mut Source<'_>, file: FileId, constant: bool) -> Result<Value, Stop>
+/// A variable as a value, which is refused if `constant`.
+fn variable_value(
+    tokens: &mut TokenCursor<'_>,
+    file: FileId,
+    constant: bool,
+) -> Result<Value, ParseError>
     ensures { Reads value_tree (variable_meant (in_file file) constant tokens.old) result tokens.new }
 {
     if constant {
-        return Err(Stop::Unexpected);
+        return Err(ParseError::Unexpected);
     }
     Ok(Value::Variable(variable(tokens, file)?))
 }
 
 /// Whether the next token is a Name but `true`, `false` or `null`.
-fn next_is_enum_value(tokens: &Source<'_>) -> bool
+fn next_is_enum_value(tokens: &TokenCursor<'_>) -> bool
     ensures { result ≡ kinds.next_is kinds.is_enum_value (input.next tokens.now) }
 {
     match tokens.peek() {
@@ -49,33 +53,33 @@ fn next_is_enum_value(tokens: &Source<'_>) -> bool
 }
 
 /// EnumValue: `Name` but not `true`, `false`, `null`.
-pub fn enum_value(tokens: &mut Source<'_>, file: FileId) -> Result<Name, Stop>
+pub fn enum_value(tokens: &mut TokenCursor<'_>, file: FileId) -> Result<Name, ParseError>
     ensures { Reads name_tree (reading.enum_value (in_file file) tokens.old) result tokens.new }
 {
     if !next_is_enum_value(tokens) {
-        return Err(Stop::Unexpected);
+        return Err(ParseError::Unexpected);
     }
     name(tokens, file)
 }
 
 /// An EnumValue as a value.
-fn named_value(tokens: &mut Source<'_>, file: FileId) -> Result<Value, Stop>
+fn named_value(tokens: &mut TokenCursor<'_>, file: FileId) -> Result<Value, ParseError>
     ensures { Reads value_tree (named_meant (in_file file) tokens.old) result tokens.new }
 {
     Ok(Value::Enum(enum_value(tokens, file)?))
 }
 
 /// Whether the next token is `true` or `false`.
-fn next_is_boolean(tokens: &Source<'_>) -> bool
+fn next_is_boolean(tokens: &TokenCursor<'_>) -> bool
     ensures { result ≡ kinds.next_is kinds.is_boolean (input.next tokens.now) }
 {
     matches!(tokens.peek(), Some(Terminal::True | Terminal::False))
 }
 
 /// BooleanValue: `true` or `false`.
-// Here and in `null_value` `file` is for the contract alone.
+// Here and in `null_value`, `file` is only for the contract.
 #[tactic(auto, unfolding(read_grammar::specs::ValueReading::boolean_value))]
-fn boolean_value(tokens: &mut Source<'_>, file: FileId) -> Result<Value, Stop>
+fn boolean_value(tokens: &mut TokenCursor<'_>, file: FileId) -> Result<Value, ParseError>
     ensures { Reads value_tree (reading.boolean_value (in_file file) tokens.old) result tokens.new }
 {
     if next_is(tokens, Terminal::True) {
@@ -88,22 +92,22 @@ fn boolean_value(tokens: &mut Source<'_>, file: FileId) -> Result<Value, Stop>
 
 /// NullValue: `null`.
 #[tactic(auto, unfolding(read_grammar::specs::ValueReading::null_value))]
-fn null_value(tokens: &mut Source<'_>, file: FileId) -> Result<Value, Stop>
+fn null_value(tokens: &mut TokenCursor<'_>, file: FileId) -> Result<Value, ParseError>
     ensures { Reads value_tree (reading.null_value (in_file file) tokens.old) result tokens.new }
 {
     expect(tokens, Terminal::Null)?;
     Ok(Value::Null)
 }
 
-/// A value that is neither a list nor an object. Where `constant`, variables are refused.
-// It is not inlined, so that what it holds takes no stack at each level of a value.
+/// A value that is neither a list nor an object. If `constant`, variables are refused.
+// Not inlined, so that its locals take no stack at each level of a value.
 #[inline(never)]
 pub fn plain_value(
     alloc: Global,
-    tokens: &mut Source<'_>,
+    tokens: &mut TokenCursor<'_>,
     file: FileId,
     constant: bool,
-) -> Result<Value, Stop>
+) -> Result<Value, ParseError>
     ensures { Reads value_tree (reading.any_value (in_file file) constant read.refuse read.refuse tokens.old) result tokens.new }
 {
     if next_is(tokens, Terminal::Dollar) {
@@ -127,5 +131,5 @@ pub fn plain_value(
     if next_is_enum_value(tokens) {
         return named_value(tokens, file);
     }
-    Err(Stop::Unexpected)
+    Err(ParseError::Unexpected)
 }

@@ -13,8 +13,8 @@ use crate::{
     placed_type, since, variable,
 };
 use graphql_names::{FileId, Node};
-use read_grammar::Stop;
-use read_tokens::{Source, Terminal};
+use read_grammar::ParseError;
+use read_tokens::{Terminal, TokenCursor};
 use std::alloc::Global;
 use tree_directives::DirectiveList;
 use tree_literals::{Type, Value};
@@ -23,10 +23,10 @@ use tree_operations::VariableDefinition;
 /// `Type DefaultValue? Directives?`, without variables in its values.
 fn type_and_default(
     alloc: Global,
-    tokens: &mut Source<'_>,
+    tokens: &mut TokenCursor<'_>,
     file: FileId,
     depth: usize,
-) -> Result<(Node<Type>, (Option<Node<Value>>, Option<DirectiveList>)), Stop>
+) -> Result<(Node<Type>, (Option<Node<Value>>, Option<DirectiveList>)), ParseError>
     ensures { Reads type_and_default_view (steps.type_and_default (in_file file) depth tokens.old) result tokens.new }
 {
     let ty = placed_type(alloc, tokens, file, depth)?;
@@ -39,10 +39,10 @@ fn type_and_default(
 #[tactic(auto, unfolding(read_grammar::specs::OperationReading::variable_definition))]
 fn variable_definition(
     alloc: Global,
-    tokens: &mut Source<'_>,
+    tokens: &mut TokenCursor<'_>,
     file: FileId,
     depth: usize,
-) -> Result<VariableDefinition, Stop>
+) -> Result<VariableDefinition, ParseError>
     ensures { Reads variable_definition_tree (reading.variable_definition (in_file file) depth tokens.old) result tokens.new }
 {
     let name = variable(tokens, file)?;
@@ -59,10 +59,10 @@ fn variable_definition(
 /// A definition of a variable with its place.
 fn placed_variable_definition(
     alloc: Global,
-    tokens: &mut Source<'_>,
+    tokens: &mut TokenCursor<'_>,
     file: FileId,
     depth: usize,
-) -> Result<Node<VariableDefinition>, Stop>
+) -> Result<Node<VariableDefinition>, ParseError>
     ensures { Reads (node_tree variable_definition_tree) (steps.placed_variable (in_file file) depth tokens.old) result tokens.new }
 {
     let begin = begin(tokens);
@@ -74,14 +74,14 @@ fn placed_variable_definition(
 /// One or more definitions of variables.
 fn some_variable_definitions(
     alloc: Global,
-    tokens: &mut Source<'_>,
+    tokens: &mut TokenCursor<'_>,
     file: FileId,
     depth: usize,
-) -> Result<Vec<Node<VariableDefinition>>, Stop>
+) -> Result<Vec<Node<VariableDefinition>>, ParseError>
     ensures { Reads (λ v. map (node_tree variable_definition_tree) v.items) (steps.some_variables (in_file file) depth tokens.old) result tokens.new }
 {
     if !next_is(tokens, Terminal::Dollar) {
-        return Err(Stop::Unexpected);
+        return Err(ParseError::Unexpected);
     }
     let mut found = Vec::new(alloc);
     'turns: while next_is(tokens, Terminal::Dollar) {
@@ -93,10 +93,10 @@ fn some_variable_definitions(
 /// VariableDefinitions: `"(" VariableDefinition+ ")"`.
 pub fn variable_definitions(
     alloc: Global,
-    tokens: &mut Source<'_>,
+    tokens: &mut TokenCursor<'_>,
     file: FileId,
     depth: usize,
-) -> Result<Vec<Node<VariableDefinition>>, Stop>
+) -> Result<Vec<Node<VariableDefinition>>, ParseError>
     ensures { Reads (λ v. map (node_tree variable_definition_tree) v.items) (reading.variable_definitions (in_file file) depth tokens.old) result tokens.new }
 {
     open(tokens, Terminal::OpenParen, depth)?;

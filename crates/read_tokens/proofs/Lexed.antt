@@ -1,4 +1,4 @@
--- What a `Source` shows is how its text is lexed, and there is one way.
+-- What a `TokenCursor` shows is how its text is lexed, and there is one way.
 use Rattle.std.proofs.Common.{◌≡◌, ◌⊎◌, ℕ, zero, suc, ◌+◌, ◌-◌, ◌<◌, ◌≤◌, List, [], ◌∷◌, length, take, drop, Option, Some, None, refl, sym, ap, ◌∙◌, subst, inl, inr, arith, add-zero}
 use Rattle.std.proofs.lemmas.List.{drop-drop, length-drop}
 use Rattle.read_tokens.specs.Input.{Token, Ending, Ended, NoTokenAt}

@@ -40,7 +40,7 @@ common_end left common e = ap (λ (bs : List ℕ). least_of common (common_inden
 
 -- ---- the lines that are kept, line by line
 
-none_kept : (lines : List (List ℕ)) → list_all is_blank lines ≡ true → without_blank_back lines ≡ []
+pub none_kept : (lines : List (List ℕ)) → list_all is_blank lines ≡ true → without_blank_back lines ≡ []
 none_kept [] h = refl
 none_kept (line ∷ lines) h = rw h refl
 

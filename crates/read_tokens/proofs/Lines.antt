@@ -10,10 +10,10 @@ use Rattle.read_tokens.specs.Values.{terminator_len, line_in, Cut, AtMost, furth
 
 -- ---- a line is cut
 
-abbrev rest_in : List ℕ → List ℕ
+abbrev pub rest_in : List ℕ → List ℕ
 rest_in text = drop (prefix_len is_in_line text) text
 
-abbrev behind_in : List ℕ → List ℕ
+abbrev pub behind_in : List ℕ → List ℕ
 behind_in text = drop (terminator_len (rest_in text)) (rest_in text)
 
 cut_onto : (b : ℕ) (text line behind : List ℕ) → Cut text line behind → is_in_line b ≡ true → Cut (b ∷ text) (b ∷ line) behind
@@ -242,7 +242,7 @@ at_most_front k (line ∷ lines) h = go (is_blank line) (at_most_front k lines (
     go false more = h
 
 -- the first line of a front without blank ones isn't blank
-front_first : (lines : List (List ℕ)) (line : List ℕ) (others : List (List ℕ)) → without_blank_front lines ≡ line ∷ others → is_blank line ≡ false
+pub front_first : (lines : List (List ℕ)) (line : List ℕ) (others : List (List ℕ)) → without_blank_front lines ≡ line ∷ others → is_blank line ≡ false
 front_first [] line others e = absurd cc
 front_first (l ∷ lines) line others e = go (is_blank l) refl e (λ is. front_first lines line others is)
   where

@@ -1,4 +1,4 @@
--- The texts of Int and Float tokens that a `Source` gives are numbers.
+-- The texts of Int and Float tokens that a `TokenCursor` gives are numbers.
 use Rattle.std.proofs.Common.{◌≡◌, ℕ, Bool, true, false, cond, ◌||◌, ◌==◌, List, [], ◌∷◌, length, take, Option, Some, None, refl, sym, ap, ◌∙◌, subst, inl, inr}
 use Rattle.std.specs.List.{prefix_len}
 use Rattle.std.specs.Char.{is_ascii_digit}

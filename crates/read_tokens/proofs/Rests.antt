@@ -1,4 +1,4 @@
--- What a `Source` shows, from one token to the next.
+-- What a `TokenCursor` shows, from one token to the next.
 use Rattle.std.proofs.Common.{◌≡◌, ℕ, zero, suc, ◌+◌, ◌-◌, ◌<◌, ◌≤◌, Bool, true, false, ◌&&◌, List, [], ◌∷◌, length, take, drop, Option, Some, None, refl, sym, ap, ◌∙◌, subst, arith, one-add, add-zero}
 use Rattle.std.proofs.lemmas.List.{drop-drop, length-drop, length-take-le}
 use Rattle.std.proofs.lemmas.Bool.{lt-ltb, le-ltb}
@@ -149,7 +149,7 @@ symbol_none bytes h = go (token_at bytes) refl h
     go None e is = e
     go (Some t) e is = absurd cc
 
--- ---- what the calls of a `Source` answer
+-- ---- what the calls of a `TokenCursor` answer
 
 pub symbol_token : (bytes : List ℕ) (symbol : Terminal × ℕ) → symbol_at bytes ≡ Some symbol → (kind : TokenKind) × (token_at bytes ≡ Some (kind, symbol.1))
 symbol_token bytes symbol h = let s = symbol_found bytes symbol h in (s.kind, s.found)

@@ -254,14 +254,17 @@ pub characters_plain : (text : List ℕ) → replaced block_character_at 0 text 
 characters_plain text = replaced_plain block_character_at block_keeps text
 
 -- a text without a backslash is kept as it is
-pub all_kept : (text : List ℕ) → list_any (λ b. b == 92) text ≡ false → replaced block_character_at 0 text ≡ text
+pub kept_whole : (rule : List ℕ → List ℕ × ℕ) → Keeps rule → (text : List ℕ) → list_any (λ b. b == 92) text ≡ false → replaced rule 0 text ≡ text
 unfolding replaced
-all_kept [] h = refl
-all_kept (b ∷ text) h = go (b == 92) refl h (all_kept text)
+kept_whole rule keeps [] h = refl
+kept_whole rule keeps (b ∷ text) h = go (b == 92) refl h (kept_whole rule keeps text)
   where
-    go : (t : Bool) → (b == 92) ≡ t → t || list_any (λ b. b == 92) text ≡ false → (list_any (λ b. b == 92) text ≡ false → replaced block_character_at 0 text ≡ text) → replaced block_character_at 0 (b ∷ text) ≡ b ∷ text
+    go : (t : Bool) → (b == 92) ≡ t → t || list_any (λ b. b == 92) text ≡ false → (list_any (λ b. b == 92) text ≡ false → replaced rule 0 text ≡ text) → replaced rule 0 (b ∷ text) ≡ b ∷ text
     go true e h more = absurd cc
     go false e h more =
         let plain : is_plain b ≡ true = rw e refl in
-        let one : (block_character_at (b ∷ text)).0 ++ replaced block_character_at ((block_character_at (b ∷ text)).1 - 1) text ≡ b ∷ replaced block_character_at 0 text = ap (λ (p : List ℕ × ℕ). p.0 ++ replaced block_character_at (p.1 - 1) text) (block_keeps b text plain) in
+        let one : (rule (b ∷ text)).0 ++ replaced rule ((rule (b ∷ text)).1 - 1) text ≡ b ∷ replaced rule 0 text = ap (λ (p : List ℕ × ℕ). p.0 ++ replaced rule (p.1 - 1) text) (keeps b text plain) in
         one ∙ ap (λ (rest : List ℕ). b ∷ rest) (more h)
+
+pub all_kept : (text : List ℕ) → list_any (λ b. b == 92) text ≡ false → replaced block_character_at 0 text ≡ text
+all_kept text h = kept_whole block_character_at block_keeps text h

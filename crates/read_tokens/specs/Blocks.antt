@@ -13,20 +13,20 @@ abbrev pub escaped_quotes : List ℕ
 escaped_quotes = 92 ∷ 34 ∷ 34 ∷ 34 ∷ []
 
 -- Laxer: any Unicode scalar value, also a control character, and one above U+FFFF (section 2.1)
--- BlockStringCharacter: `\"""`, or a character that does not begin `"""` (of which each byte counts here)
+-- BlockStringCharacter: `\"""`, or a character that does not begin `"""` (each of its bytes counts as one here)
 unfoldable pub block_character_len : List ℕ → Option ℕ
 block_character_len [] = None
 block_character_len (b ∷ bytes) =
     if begins_with escaped_quotes (b ∷ bytes) then Some 4
     else (if begins_with quotes (b ∷ bytes) then None else Some 1)
 
--- `"""`, block string characters, `"""`, of a text that begins with `"""`
+-- the length of `"""`, block string characters, `"""`, in a text that begins with `"""`
 unfoldable pub block_len : List ℕ → Option ℕ
 block_len bytes = closed_len quotes (run_len block_character_len 0 (drop 3 bytes)) bytes
 
 -- ---- what a block string stands for
 
--- what the block string character stands for that begins the bytes, and its length
+-- what the block string character at the front of the bytes stands for, and its length
 unfoldable pub block_character_at : List ℕ → List ℕ × ℕ
 block_character_at [] = ([], 1)
 block_character_at (b ∷ bytes) = if begins_with escaped_quotes (b ∷ bytes) then (quotes, 4) else (b ∷ [], 1)
@@ -38,7 +38,7 @@ raw_value token = replaced block_character_at 0 (between 3 token)
 abbrev pub is_line_feed : ℕ → Bool
 is_line_feed b = b == 10
 
--- the byte ends a line, before these: a line feed, or a carriage return that no line feed follows
+-- whether the byte, followed by these, ends a line: a line feed, or a carriage return that no line feed follows
 abbrev pub ends_line : ℕ → List ℕ → Bool
 ends_line b behind = b == 10 || (b == 13 && not (begins_by is_line_feed behind))
 
@@ -46,7 +46,7 @@ abbrev pub onto_first : ℕ → List (List ℕ) → List (List ℕ)
 onto_first b [] = []
 onto_first b (line ∷ lines) = (b ∷ line) ∷ lines
 
--- what stands between the line terminators of a text (section 2.1.3); a carriage return before a line feed belongs to it
+-- the lines of a text, without their line terminators (section 2.1.3); a carriage return and a line feed after it count as one
 unfoldable pub lines_of : List ℕ → List (List ℕ)
 lines_of [] = [] ∷ []
 lines_of (b ∷ bytes) =
@@ -57,7 +57,7 @@ lines_of (b ∷ bytes) =
 abbrev pub is_white_space : ℕ → Bool
 is_white_space b = b == 9 || b == 32
 
--- the line contains white space alone
+-- the line contains only white space
 abbrev pub is_blank : List ℕ → Bool
 is_blank line = list_all is_white_space line
 
@@ -69,7 +69,7 @@ abbrev pub least : ℕ → Option ℕ → ℕ
 least n None = n
 least n (Some m) = min n m
 
--- the least indent of those of these lines that are not blank, where there are any
+-- the least indent of the lines that are not blank, if there are any
 abbrev pub common_indent : List (List ℕ) → Option ℕ
 common_indent [] = None
 common_indent (line ∷ lines) = if is_blank line then common_indent lines else Some (least (indent_of line) (common_indent lines))
@@ -78,17 +78,17 @@ abbrev pub or_zero : Option ℕ → ℕ
 or_zero None = 0
 or_zero (Some n) = n
 
--- the common indent of all lines but the first is removed from all but the first
+-- the lines, with the common indent of all but the first removed from all but the first
 abbrev pub without_indent : List (List ℕ) → List (List ℕ)
 without_indent [] = []
 without_indent (first ∷ lines) = first ∷ map (drop (or_zero (common_indent lines))) lines
 
--- while the first line is blank, it is removed
+-- the lines without blank ones at the front
 abbrev pub without_blank_front : List (List ℕ) → List (List ℕ)
 without_blank_front [] = []
 without_blank_front (line ∷ lines) = if is_blank line then without_blank_front lines else line ∷ lines
 
--- while the last line is blank, it is removed
+-- the lines without blank ones at the end
 abbrev pub without_blank_back : List (List ℕ) → List (List ℕ)
 without_blank_back [] = []
 without_blank_back (line ∷ lines) = if list_all is_blank (line ∷ lines) then [] else line ∷ without_blank_back lines

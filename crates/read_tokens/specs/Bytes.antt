@@ -1,7 +1,7 @@
--- What begins a list of bytes, and pieces that stand one behind the other.
+-- What begins a list of bytes, and pieces that follow one another.
 use Rattle.std.specs.Prelude.{ℕ, zero, suc, ◌+◌, ◌-◌, Bool, true, false, ◌&&◌, ◌==◌, nat_le, List, [], ◌∷◌, ◌++◌, length, take, drop, Option, Some, None}
 
--- from low to high
+-- whether the byte is from low to high, both included
 abbrev pub within : ℕ → ℕ → ℕ → Bool
 within low high b = nat_le low b && nat_le b high
 
@@ -25,14 +25,14 @@ abbrev pub run_on : Option ℕ → (ℕ → ℕ) → ℕ
 run_on None more = 0
 run_on (Some n) more = more n
 
--- How many bytes pieces take that stand at the front, one behind the other, as far as a rule finds them: the rule says
--- how long the piece is that begins the bytes. The number before the bytes counts those that are left of a piece.
+-- How many bytes are taken by the pieces at the front that follow one another, as far as a rule finds them: the rule
+-- gives the length of the piece that begins the bytes. `left` counts the bytes that are left of a piece.
 unfoldable pub run_len : (List ℕ → Option ℕ) → ℕ → List ℕ → ℕ
 run_len rule left [] = 0
 run_len rule (suc left) (b ∷ bytes) = 1 + run_len rule left bytes
 run_len rule zero (b ∷ bytes) = run_on (rule (b ∷ bytes)) (λ n. 1 + run_len rule (n - 1) bytes)
 
--- The bytes with each piece replaced: the rule says by what, and how long the piece is. The number counts as above.
+-- The bytes with each piece replaced: the rule gives the replacement, and the length of the piece. `left` is as above.
 unfoldable pub replaced : (List ℕ → List ℕ × ℕ) → ℕ → List ℕ → List ℕ
 replaced rule left [] = []
 replaced rule (suc left) (b ∷ bytes) = replaced rule left bytes

@@ -1,4 +1,4 @@
--- What a parser has before it.
+-- The input of a parser.
 use Rattle.std.specs.Prelude.{ℕ, ◌+◌, List, [], ◌∷◌, length, Option, Some, None}
 use Rattle.read_tokens.specs.declared.terminal.Terminal.{Terminal}
 
@@ -30,6 +30,6 @@ next_of (t ∷ ts) = Some t.kind
 abbrev pub next : Input → Option Terminal
 next i = next_of i.ahead
 
--- behind the first token ahead, where these are left
+-- the input after the token `t`, with the tokens `ts` ahead
 abbrev pub past : Input → Token → List Token → Input
 past i t ts = record { last = end_of t; ahead = ts; ending = i.ending }

@@ -10,4 +10,5 @@ pub mod Lex
 pub mod Cursor
 pub mod Values
 pub mod Forms
+pub mod PlainTexts
 pub mod Runs

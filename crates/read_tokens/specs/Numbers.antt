@@ -16,22 +16,22 @@ is_point b = b == 46
 abbrev pub is_minus : ℕ → Bool
 is_minus b = b == 45
 
--- NegativeSign, or nothing
+-- the length of the NegativeSign, or 0
 abbrev pub sign_len : List ℕ → ℕ
 sign_len bytes = if begins_by is_minus bytes then 1 else 0
 
--- IntegerPart without its sign: `0`, or digits that begin with another
+-- IntegerPart without its sign: `0`, or digits of which the first is not `0`
 unfoldable pub whole_len : List ℕ → Option ℕ
 whole_len bytes =
     if begins_by is_zero bytes then Some 1
     else (if begins_by is_ascii_digit bytes then Some (prefix_len is_ascii_digit bytes) else None)
 
--- one Digit or more, behind this many bytes
+-- the length of this many bytes and one Digit or more after them
 unfoldable pub digits_behind : ℕ → List ℕ → Option ℕ
 digits_behind n bytes =
     if begins_by is_ascii_digit (drop n bytes) then Some (n + prefix_len is_ascii_digit (drop n bytes)) else None
 
--- FractionalPart, `.` and digits, or nothing
+-- FractionalPart: `.` and digits; or nothing
 unfoldable pub fraction_len : List ℕ → Option ℕ
 fraction_len bytes = if begins_by is_point bytes then digits_behind 1 bytes else Some 0
 
@@ -42,7 +42,7 @@ is_exponent_mark b = b == 69 || b == 101
 abbrev pub is_sign : ℕ → Bool
 is_sign b = b == 43 || b == 45
 
--- ExponentPart, an indicator, a sign or none, and digits; or nothing
+-- ExponentPart: an indicator, an optional sign, and digits; or nothing
 unfoldable pub exponent_len : List ℕ → Option ℕ
 exponent_len bytes =
     if begins_by is_exponent_mark bytes then digits_behind (if begins_by is_sign (drop 1 bytes) then 2 else 1) bytes else Some 0
@@ -51,11 +51,11 @@ exponent_len bytes =
 abbrev pub goes_on : ℕ → Bool
 goes_on b = is_name_continue b || b == 46
 
--- a number of this length whose integer part has that length
+-- the kind of a number, from the length of its integer part and its whole length
 abbrev pub number_kind : ℕ → ℕ → TokenKind
 number_kind whole all = if whole == all then k.Int else k.Float
 
--- A number: its integer part, a fraction or none, an exponent or none, and nothing behind it that goes on.
+-- A number: an integer part, an optional fraction and an optional exponent, not followed by a byte that may not follow a number.
 unfoldable pub number_at : List ℕ → Option (TokenKind × ℕ)
 number_at bytes = do
   digits ← whole_len (drop (sign_len bytes) bytes)

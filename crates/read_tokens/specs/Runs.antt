@@ -1,4 +1,4 @@
--- Private: leads to `token_at`. Bytes that are passed over at once.
+-- Private: leads to `token_at`. Bytes that are skipped in runs.
 use Rattle.std.specs.Prelude.{ℕ, Bool, not, ◌||◌, ◌==◌}
 
 -- no quotation mark, no backslash and no line terminator

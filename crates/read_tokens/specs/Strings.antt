@@ -3,7 +3,7 @@ use Rattle.std.specs.Prelude.{ℕ, ◌+◌, ◌-◌, ◌*◌, Bool, ◌||◌, �
 use Rattle.std.specs.Char.{encode_utf8}
 use Rattle.read_tokens.specs.Bytes.{within, begins_with, ◌>>=◌, run_len, replaced, between}
 
--- EscapedCharacter: what a letter behind `\` stands for
+-- EscapedCharacter: what the byte after `\` stands for
 abbrev pub escaped : ℕ → Option ℕ
 escaped b =
     if b == 34 then Some 34
@@ -16,7 +16,7 @@ escaped b =
     else if b == 116 then Some 9
     else None
 
--- the number of a hexadecimal digit, of either case
+-- the value of a hexadecimal digit, upper or lower case
 abbrev pub hexadecimal : ℕ → Option ℕ
 hexadecimal b =
     if within 48 57 b then Some (b - 48)
@@ -24,16 +24,16 @@ hexadecimal b =
     else if within 97 102 b then Some (b - 87)
     else None
 
--- the same, of the byte at a place
+-- the value of the hexadecimal digit at an index
 abbrev pub hexadecimal_at : ℕ → List ℕ → Option ℕ
 hexadecimal_at i bytes = slice_get bytes i >>= hexadecimal
 
--- the numbers that UTF-16 keeps for its pairs; they are no characters
+-- the code points that UTF-16 reserves for its pairs; they are not characters
 abbrev pub is_surrogate : ℕ → Bool
 is_surrogate c = within 55296 57343 c
 
 -- Stricter: the four hexadecimal digits of a surrogate are no escape, in a pair neither
--- EscapedUnicode: the character whose number the first four bytes write
+-- EscapedUnicode: the character whose code point the first four bytes write in hexadecimal
 unfoldable pub unicode_at : List ℕ → Option ℕ
 unicode_at bytes = do
   a ← hexadecimal_at 0 bytes
@@ -46,7 +46,7 @@ abbrev pub with_len : ℕ → Option ℕ → Option (ℕ × ℕ)
 with_len n None = None
 with_len n (Some c) = Some (c, n)
 
--- the character that an escape stands for, and how many bytes it takes behind its `\`
+-- the character that an escape stands for, and how many bytes it takes after its `\`
 unfoldable pub escape_at : List ℕ → Option (ℕ × ℕ)
 escape_at [] = None
 escape_at (b ∷ bytes) = if b == 117 then with_len 5 (unicode_at bytes) else with_len 1 (escaped b)
@@ -56,19 +56,19 @@ behind_mark None = None
 behind_mark (Some escape) = Some (1 + escape.1)
 
 -- Laxer: any Unicode scalar value, also a control character, and one above U+FFFF (section 2.1)
--- StringCharacter: an escape, or a character other than `"`, `\` and line terminators (of which each byte counts here)
+-- StringCharacter: an escape, or a character other than `"`, `\` and line terminators (each of its bytes counts as one here)
 unfoldable pub part_len : List ℕ → Option ℕ
 part_len [] = None
 part_len (b ∷ bytes) =
     if b == 34 || b == 10 || b == 13 then None
     else (if b == 92 then behind_mark (escape_at bytes) else Some 1)
 
--- what stands between two marks: this many bytes between them, and the mark at their end
+-- the length of a mark, this many bytes, and the mark again, if it is there again
 abbrev pub closed_len : List ℕ → ℕ → List ℕ → Option ℕ
 closed_len mark n bytes =
     if begins_with mark (drop (length mark + n) bytes) then Some (length mark + n + length mark) else None
 
--- `"`, string characters, `"`, of a text that begins with `"`
+-- the length of `"`, string characters, `"`, in a text that begins with `"`
 unfoldable pub quoted_len : List ℕ → Option ℕ
 quoted_len bytes = closed_len (34 ∷ []) (run_len part_len 0 (drop 1 bytes)) bytes
 
@@ -79,7 +79,7 @@ abbrev pub escape_part : Option (ℕ × ℕ) → List ℕ × ℕ
 escape_part None = (92 ∷ [], 1)
 escape_part (Some escape) = (encode_utf8 escape.0, 1 + escape.1)
 
--- what the part stands for that begins the bytes, and its length
+-- what the part at the front of the bytes stands for, and its length
 unfoldable pub part_at : List ℕ → List ℕ × ℕ
 part_at [] = ([], 1)
 part_at (b ∷ bytes) = if b == 92 then escape_part (escape_at bytes) else (b ∷ [], 1)

@@ -54,12 +54,12 @@ words =
     ∷ (codes "DIRECTIVE_DEFINITION", t.Location)
     ∷ []
 
--- the symbol of the first of these words that the text spells, and `Name` where it spells none
+-- the symbol of the first of these words that the text spells; `Name` if it spells none
 abbrev pub spelled : List Word → List ℕ → Terminal
 spelled [] text = t.Name
 spelled (word ∷ others) text = if bytes_eq word.0 text then word.1 else spelled others text
 
--- the symbol of a token: a Name's by its text, and that of its kind else
+-- the symbol of a token: for a Name, by its text; for every other token, by its kind
 abbrev pub terminal_of : TokenKind → List ℕ → Terminal
 terminal_of Name text = spelled words text
 terminal_of Bang text = t.Bang

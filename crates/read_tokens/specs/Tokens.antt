@@ -18,15 +18,15 @@ abbrev pub is_ignored_byte : ℕ → Bool
 is_ignored_byte b = b == 9 || b == 32 || b == 10 || b == 44
 
 -- Laxer: in a comment any Unicode scalar value, also a control character, and one above U+FFFF (section 2.1)
--- no byte of a line terminator (section 2.1.3)
+-- a byte that is not part of a line terminator (section 2.1.3)
 abbrev pub is_in_line : ℕ → Bool
 is_in_line b = not (b == 10 || b == 13)
 
--- a carriage return before these bytes, and a line feed that begins them
+-- the length of a carriage return before these bytes, with the line feed that begins them, if one does
 abbrev pub return_len : List ℕ → ℕ
 return_len bytes = if begins_by is_line_feed bytes then 2 else 1
 
--- WhiteSpace, Comma, LineTerminator, Comment (up to the end of the line or of the text) or UnicodeBOM (in UTF-8)
+-- the length of WhiteSpace, Comma, LineTerminator, Comment (up to the end of the line or of the text) or UnicodeBOM (in UTF-8)
 unfoldable pub ignored_at : List ℕ → Option ℕ
 ignored_at [] = None
 ignored_at (b ∷ bytes) =
@@ -64,11 +64,12 @@ abbrev pub of_kind : TokenKind → Option ℕ → Option (TokenKind × ℕ)
 of_kind kind None = None
 of_kind kind (Some n) = Some (kind, n)
 
--- a BlockString or a String, of a text that begins with `"`
+-- a BlockString or a String, in a text that begins with `"`
 unfoldable pub string_at : List ℕ → Option (TokenKind × ℕ)
 string_at bytes = if begins_with quotes bytes then of_kind k.BlockString (block_len bytes) else of_kind k.String (quoted_len bytes)
 
--- A Name, which reaches as far as name characters do (section 2.1.9), a number, a string, `...`, or another punctuator
+-- The token that begins a text, and its length: a Name (as long as name characters go on, section 2.1.9), a number, a string,
+-- `...`, or another punctuator.
 unfoldable pub token_at : List ℕ → Option (TokenKind × ℕ)
 token_at [] = None
 token_at (b ∷ bytes) =

@@ -9,7 +9,7 @@ ghost use Rattle.read_tokens.specs.Values as spec;
 use crate::lex::line_len;
 use std::alloc::AllocError;
 
-/// How many bytes the line terminator takes that begins the bytes; 0 where none does (section 2.1.3).
+/// The length of the line terminator that begins the bytes; 0 if none does (section 2.1.3).
 fn terminator_len(bytes: &[u8]) -> usize
     ensures value { result ≡ spec.terminator_len bytes.now }
     ensures within { result ≤ length bytes.now }
@@ -70,8 +70,8 @@ fn indent_of(line: &[u8]) -> usize
         .count()
 }
 
-/// Whether the line is tabs and spaces alone.
-fn is_blank(line: &[u8]) -> bool
+/// Whether the line is only tabs and spaces.
+pub(crate) fn is_blank(line: &[u8]) -> bool
     ensures { result ≡ blocks.is_blank line.now }
 {
     line.iter().all(|byte| is_white_space(*byte))
@@ -114,7 +114,7 @@ fn or_zero(indent: Option<usize>) -> usize
     }
 }
 
-/// How many lines are kept up to this one, the last of so many; the number before it where it is blank.
+/// How many lines are kept up to this one, the last of `count`; the number kept before it, if it is blank.
 fn kept_with(line: &[u8], count: usize, kept: usize) -> usize
     ensures { result ≡ (if blocks.is_blank line.now then kept else count) }
 {
@@ -122,7 +122,7 @@ fn kept_with(line: &[u8], count: usize, kept: usize) -> usize
     if is_kept { count } else { kept }
 }
 
-/// How many of the lines of a text there are without those at its end that are blank.
+/// How many lines a text has, without the blank ones at its end.
 fn kept_lines(bytes: &[u8]) -> usize
     ensures { result ≡ length (blocks.without_blank_back (blocks.lines_of bytes.now)) }
 {
@@ -198,7 +198,7 @@ pub(crate) fn push_block(out: &mut String, raw: &str) -> Result<(), AllocError>
 {
     let line = first_line(raw);
     let behind = behind_line(raw, line.len());
-    // The lines are passed several times, for the indent, the end and the text: so no list of them is made.
+    // The lines are scanned several times, for the indent, the end and the text: this way no list of them is made.
     let indent = or_zero(common_indent(behind.as_bytes()));
     if is_blank(line.as_bytes()) {
         return push_from(out, behind, indent);

@@ -90,7 +90,7 @@ fn ignored_at(bytes: &[u8]) -> Option<usize>
         [b'\r', b'\n', ..] => Some(2),
         [b'\r', ..] => Some(1),
         [b'#', ..] => Some(line_len(bytes)),
-        // The byte order mark: the grammar ignores it wherever it stands, not only at the start.
+        // The byte order mark: the grammar ignores it anywhere, not only at the start.
         [0xEF, 0xBB, 0xBF, ..] => Some(3),
         _ => None,
     }
@@ -115,7 +115,7 @@ fn count_ignored(bytes: &[u8]) -> usize
 }
 
 /// How many bytes pieces of one byte take at the front.
-// The same count with another contract: what it means for the rule on pieces.
+// The count of `count_ignored`, with a contract about the pieces of `ignored_at`.
 fn ignored_bytes_len(bytes: &[u8]) -> usize
     ensures run { run_len spec.ignored_at 0 bytes.now ≡ result + run_len spec.ignored_at 0 (drop result bytes.now) }
     ensures within { result ≤ length bytes.now }
@@ -131,7 +131,7 @@ pub(crate) fn ignored_len(bytes: &[u8]) -> usize
 {
     let mut length = ignored_bytes_len(bytes);
     let (_, mut rest) = bytes.split_at(length);
-    // A turn takes one piece and all single bytes after it, which are counted at once.
+    // Each iteration takes one piece and all ignored single bytes after it, which are counted together.
     'pieces: while let Some(piece) = ignored_at(rest) {
         let (_, behind) = rest.split_at(piece);
         let more = ignored_bytes_len(behind);

@@ -35,7 +35,7 @@ fn whole_len(bytes: &[u8]) -> Option<usize>
     ensures within { IfSome result (λ n. (0 < n) × (n ≤ length bytes.now)) }
 {
     match bytes {
-        // A digit after it is not taken here, and then refused by `goes_on`.
+        // A digit after the `0` is not taken here; `goes_on` refuses it later.
         [b'0', ..] => Some(1),
         [first, ..] if first.is_ascii_digit() => Some(digits_len(bytes)),
         _ => None,
@@ -98,7 +98,7 @@ pub(crate) fn number_at(bytes: &[u8]) -> Option<(TokenKind, usize)>
     let whole = sign + whole_len(&bytes[sign..])?;
     let fraction = whole + fraction_len(&bytes[whole..])?;
     let all = fraction + exponent_len(&bytes[fraction..])?;
-    // Section 2.9.1 looks ahead: `0xF` is no number and a name, but no token at all.
+    // Section 2.9.1 looks ahead: `0xF` is no token, not a number and a name.
     if goes_on(&bytes[all..]) {
         return None;
     }

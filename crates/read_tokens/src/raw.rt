@@ -7,7 +7,7 @@ ghost use Rattle.read_tokens.specs.Blocks.{block_character_at};
 use crate::value::push_plain;
 use std::alloc::{AllocError, Global};
 
-/// What the block string character stands for that begins the bytes, and its length.
+/// What the block string character at the front of the bytes stands for, and its length.
 #[tactic(auto, unfolding(crate::specs::Blocks::block_character_at))]
 fn block_character_at(bytes: &[u8]) -> (&'static str, usize)
     requires { begins_with (92 ∷ []) bytes.now ≡ true }
@@ -20,7 +20,7 @@ fn block_character_at(bytes: &[u8]) -> (&'static str, usize)
     }
 }
 
-/// Adds what the character stands for that begins the text, and gives the text after it.
+/// Adds what the character at the front of the text stands for, and gives the text after it.
 fn push_character<'a>(out: &mut String, text: &'a str) -> Result<&'a str, AllocError>
     requires { begins_with (92 ∷ []) text.now ≡ true }
     ensures pushed { OnOk result (string_bytes out.new ≡ string_bytes out.old ++ (block_character_at text.now).0) }
@@ -36,7 +36,7 @@ fn push_character<'a>(out: &mut String, text: &'a str) -> Result<&'a str, AllocE
 pub(crate) fn raw_value(alloc: Global, text: &str) -> Result<String, AllocError>
     ensures { IfOk result (λ raw. string_bytes raw ≡ replaced block_character_at 0 text.now) }
 {
-    // Room enough: what replaces `\"""` is shorter.
+    // The capacity is enough: what replaces `\"""` is shorter.
     let mut out = String::with_capacity(alloc, text.len())?;
     let mut rest = push_plain(&mut out, text)?;
     'characters: while !rest.is_empty() {

@@ -4,7 +4,7 @@ ghost use Rattle.std.specs.List.{prefix_len, list_any};
 
 use memchr::{memchr, memchr2};
 
-/// How many bytes stand before the first that is this one.
+/// How many bytes come before the first that is this one.
 #[tactic(auto, using(crate::proofs::Found::before_one))]
 pub(crate) fn len_before(byte: u8, bytes: &[u8]) -> usize
     ensures count { result ≡ prefix_len (λ b. not (b == byte)) bytes.now }
@@ -13,7 +13,7 @@ pub(crate) fn len_before(byte: u8, bytes: &[u8]) -> usize
     memchr(byte, bytes).unwrap_or(bytes.len())
 }
 
-/// How many bytes stand before the first that is one of these two.
+/// How many bytes come before the first that is one of these two.
 #[tactic(auto, using(crate::proofs::Found::before_two))]
 pub(crate) fn len_before_two(one: u8, other: u8, bytes: &[u8]) -> usize
     ensures count { result ≡ prefix_len (λ b. not (b == one || b == other)) bytes.now }

@@ -8,7 +8,7 @@ ghost use Rattle.read_tokens.specs.Runs as runs;
 
 use crate::search::len_before_two;
 
-/// What a letter after `\` stands for.
+/// What the byte after `\` stands for.
 fn escaped(byte: u8) -> Option<char>
     ensures { result ≡ spec.escaped byte }
 {
@@ -25,7 +25,7 @@ fn escaped(byte: u8) -> Option<char>
     }
 }
 
-/// The number of a hexadecimal digit.
+/// The value of a hexadecimal digit.
 fn hexadecimal(byte: u8) -> Option<u32>
     ensures value { result ≡ spec.hexadecimal byte }
     ensures below { IfSome result (λ n. n < 16) }
@@ -46,7 +46,7 @@ fn hexadecimal_at(i: usize, bytes: &[u8]) -> Option<u32>
     hexadecimal(byte)
 }
 
-/// The character whose number four hexadecimal digits write. A surrogate is none.
+/// The character whose code point four hexadecimal digits write. A surrogate is not a character.
 // `\u{..}` and pairs of surrogates for one character came after October 2021.
 #[tactic(auto, unfolding(crate::specs::Strings::unicode_at))]
 fn unicode_at(bytes: &[u8]) -> Option<char>
@@ -79,7 +79,7 @@ pub(crate) fn escape_at(bytes: &[u8]) -> Option<(char, usize)>
     }
 }
 
-/// How many bytes the string character takes that begins the bytes.
+/// The length of the string character that begins the bytes.
 #[tactic(auto, unfolding(crate::specs::Strings::part_len))]
 fn part_len(bytes: &[u8]) -> Option<usize>
     ensures value { result ≡ spec.part_len bytes.now }
@@ -114,7 +114,7 @@ fn count_plain_parts(bytes: &[u8]) -> usize
 }
 
 /// How many bytes string characters of one byte take at the front.
-// The same count with another contract: what it means for the rule on parts.
+// The count of `count_plain_parts`, with a contract about the parts of `part_len`.
 fn plain_parts_len(bytes: &[u8]) -> usize
     ensures run { run_len spec.part_len 0 bytes.now ≡ result + run_len spec.part_len 0 (drop result bytes.now) }
     ensures within { result ≤ length bytes.now }
@@ -156,7 +156,7 @@ pub(crate) fn quoted_len(bytes: &[u8]) -> Option<usize>
     }
 }
 
-/// How many bytes the block string character takes that begins the bytes.
+/// The length of the block string character that begins the bytes.
 #[tactic(auto, unfolding(crate::specs::Blocks::block_character_len))]
 fn block_character_len(bytes: &[u8]) -> Option<usize>
     ensures value { result ≡ blocks.block_character_len bytes.now }

@@ -14,7 +14,7 @@ use std::alloc::{AllocError, Global};
 
 /// What is between the marks of a string, which take this many bytes each.
 #[tactic(auto, using(crate::proofs::Forms::open_boundary, crate::proofs::Forms::close_boundary))]
-fn between(token: &str, mark: usize) -> &str
+pub(crate) fn between(token: &str, mark: usize) -> &str
     requires { Marked mark token.now }
     ensures { result.now ≡ bytes.between mark token.now }
 {
@@ -28,7 +28,7 @@ pub fn string_value(alloc: Global, token: &str) -> Result<String, AllocError>
     ensures { IfOk result (λ value. string_bytes value ≡ spec.string_value token.now) }
 {
     let text = between(token, 1);
-    // Room enough: no escape is shorter than what it stands for.
+    // The capacity is enough: no escape is shorter than what it stands for.
     let mut value = String::with_capacity(alloc, text.len())?;
     push_parts(&mut value, text)?;
     Ok(value)

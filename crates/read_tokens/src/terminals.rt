@@ -82,7 +82,7 @@ const LOCATIONS_U: &[(&str, Terminal)] = &[("UNION", Terminal::Location)];
 
 const LOCATIONS_V: &[(&str, Terminal)] = &[("VARIABLE_DEFINITION", Terminal::Location)];
 
-/// The symbol of the first word of the table that the text spells, and `Name` where it spells none.
+/// The symbol of the first word of the table that the text spells; `Name` if it spells none.
 #[tactic(auto, using(crate::proofs::Words::word_here, crate::proofs::Words::word_behind))]
 fn find_word(table: &[(&str, Terminal)], text: &[u8]) -> Terminal
     ensures { result ≡ spec.spelled (map (λ w. (w.0.now, w.1)) table.now) text.now }
@@ -128,7 +128,7 @@ fn words_with(first: u8) -> &'static [(&'static str, Terminal)]
     }
 }
 
-/// The keyword that a name is, and `Name` where it is none.
+/// The symbol of the keyword or location that a name is; `Name` if it is none.
 fn spelled(text: &[u8]) -> Terminal
     ensures { result ≡ spec.spelled spec.words text.now }
 {

@@ -33,7 +33,7 @@ pub struct Token<'a> {
     pub offset: usize,
 }
 
-/// What stands next in a text.
+/// What comes next in a text.
 #[derive(Clone, Copy, Debug)]
 pub enum NextToken<'a> {
     Token(Token<'a>),

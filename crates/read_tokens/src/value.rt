@@ -12,7 +12,7 @@ use crate::search::len_before;
 use crate::string_token::escape_at;
 use std::alloc::AllocError;
 
-/// How many bytes stand before the first `\`.
+/// How many bytes come before the first `\`.
 fn plain_len(bytes: &[u8]) -> usize
     ensures count { result ≡ prefix_len spec.is_plain bytes.now }
     ensures within { result ≤ length bytes.now }
@@ -20,7 +20,7 @@ fn plain_len(bytes: &[u8]) -> usize
     len_before(b'\\', bytes)
 }
 
-/// Adds what stands before the first `\`, and gives the text from there on.
+/// Adds what comes before the first `\`, and gives the text from there on.
 #[tactic(auto, using(crate::proofs::Values::plain_boundary))]
 pub(crate) fn push_plain<'a>(out: &mut String, text: &'a str) -> Result<&'a str, AllocError>
     ensures pushed { OnOk result (string_bytes out.new ≡ string_bytes out.old ++ take (prefix_len spec.is_plain text.now) text.now) }
@@ -31,7 +31,7 @@ pub(crate) fn push_plain<'a>(out: &mut String, text: &'a str) -> Result<&'a str,
     Ok(rest)
 }
 
-/// What the escape stands for that begins the bytes, and its length.
+/// What the escape at the front of the bytes stands for, and its length.
 #[tactic(auto, unfolding(crate::specs::Strings::part_at))]
 fn part_at(bytes: &[u8]) -> (char, usize)
     requires { begins_with (92 ∷ []) bytes.now ≡ true }
@@ -47,7 +47,7 @@ fn part_at(bytes: &[u8]) -> (char, usize)
     }
 }
 
-/// Adds what the escape stands for that begins the text, and gives the text after it.
+/// Adds what the escape at the front of the text stands for, and gives the text after it.
 fn push_part<'a>(out: &mut String, text: &'a str) -> Result<&'a str, AllocError>
     requires { begins_with (92 ∷ []) text.now ≡ true }
     ensures pushed { OnOk result (string_bytes out.new ≡ string_bytes out.old ++ (part_at text.now).0) }

@@ -2,7 +2,7 @@
 use Rattle.std.proofs.Common.{◌≡◌, ◌⊎◌, ℕ, Bool, true, false, Err, inl, inr, refl}
 use Rattle.tree_directives.specs.DirectiveTree.{DirectiveDefinitionTree}
 use Rattle.read_tokens.specs.Input.{Input, next}
-use Rattle.read_grammar.specs.declared.stop.Stop.TheVariants.{Unexpected}
+use Rattle.read_grammar.specs.declared.parse_error.ParseError.TheVariants.{Unexpected}
 use Rattle.read_grammar.specs.Meaning.{Meaning}
 use Rattle.read_grammar.specs.Kinds.{next_is, is_schema, is_scalar, is_type, is_interface, is_union, is_enum, is_input, is_directive}
 use Rattle.read_grammar.specs.Begins.{begins_kind}

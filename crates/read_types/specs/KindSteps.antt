@@ -1,4 +1,4 @@
--- Private: leads to `Derives` and `Says`. How what stands behind a description or behind `extend` is read.
+-- Private: leads to `Derives` and `Says`. How what follows a description or `extend` is read.
 use Rattle.std.specs.Prelude.{ℕ, List, Option, Ok}
 use Rattle.tree_directives.specs.DirectiveTree.{Directives, InputValues}
 use Rattle.graphql_names.specs.Placed.{Text}
@@ -13,7 +13,7 @@ use Rattle.read_grammar.specs.ValueGrammar.{constant}
 use Rattle.read_grammar.specs.ValueReading.{directives}
 
 module _ {P : Type 0} (m : Meaning P) where
-  -- ---- what stands behind a name
+  -- ---- what follows a name
 
   -- of an object or an interface
   abbrev pub fields_rest : ℕ → Parser (Option (List (Text P)) × (Option (Directives P) × Option (Fields P)))
@@ -64,7 +64,7 @@ module _ {P : Type 0} (m : Meaning P) where
   abbrev pub extension_kind : ℕ → Parser (KindTree P)
   extension_kind n = when is_schema (schema_extension_kind n) (types.type_definition m n)
 
-  -- ---- the definition, which begins at a byte with this description
+  -- ---- the definition with this description, which begins at this offset
 
   abbrev pub kind_from : ℕ → Option (Text P) → ℕ → Parser (DefinitionTree P)
   kind_from begin d n i = and_then (definition_kind n i) (λ x o. Ok (definition_of (m.place begin o.last) d x, o))

@@ -1,4 +1,4 @@
--- Private: leads to `definition_of` and `extension_of` of the grammar. What a definition says behind its description, and an extension behind `extend`, as the grammar has it.
+-- Private: leads to `definition_of` and `extension_of` of the grammar. What a definition says after its description, and an extension after `extend`, as a tree of the grammar.
 use Rattle.graphql_names.specs.Placed.{Place}
 use Rattle.read_operations.specs.in_definitions.DefinitionTree.{schema_extension_parts, scalar_extension_parts, object_extension_parts, interface_extension_parts, union_extension_parts, enum_extension_parts, input_object_extension_parts}
 use Rattle.read_grammar.specs.TypeSystemGrammar.{KindTree, SchemaKind, ScalarKind, ObjectKind, InterfaceKind, UnionKind, EnumKind, InputObjectKind}

@@ -1,4 +1,4 @@
--- Private: leads to `Derives` and `Says`. The parts of definitions within the type system.
+-- Private: leads to `Derives` and `Says`. How parts of type system definitions are read.
 use Rattle.std.specs.Prelude.{ℕ, Bool, List, ◌++◌, Option}
 use Rattle.graphql_names.specs.Placed.{Placed, Text}
 use Rattle.tree_literals.specs.ValueTree.{ValueTree}
@@ -15,19 +15,19 @@ use Rattle.read_grammar.specs.TypeSystemReading.{description, arguments_definiti
 use Rattle.read_grammar.specs.ValueGrammar.{constant}
 use Rattle.read_grammar.specs.ValueReading.{name, default_value, directives, type}
 
--- the first of several with marks between, before which a mark may stand too
+-- the first of several with marks between them; a mark may also precede it
 abbrev pub first : {A : Type 0} → (Terminal → Bool) → Parser A → Parser A
 first is p = when is (behind is p) p
 
--- those that are found, and the others behind them, each behind a mark
+-- those already found, and the others after them, each after a mark
 abbrev pub others : {A : Type 0} → (Terminal → Bool) → Parser A → List A → Parser (List A)
 others is p found = (λ xs. found ++ xs) <&> many is (behind is p)
 
--- with what a directive's definition begins
+-- the beginning of a directive's definition: `directive` and `@`
 abbrev pub directive_marks : Parser (Unit {0} × Unit {0})
 directive_marks = mark is_directive ⊙ mark is_at
 
--- what stands behind the arguments and the directives of a directive's definition
+-- what follows the arguments and the directives of a directive's definition
 abbrev pub directive_end : Parser (Option (Unit {0}) × (Unit {0} × List DirectiveLocation))
 directive_end = try is_repeatable (mark is_repeatable) ⊙ mark is_on ⊙ directive_locations
 
@@ -36,23 +36,23 @@ module _ {P : Type 0} (m : Meaning P) where
   abbrev pub described_name : Parser (Option (Text P) × Text P)
   described_name = try is_string (description m) ⊙ name m
 
-  -- what stands behind the name of an input value
+  -- what follows the name of an input value
   abbrev pub input_value_rest : ℕ → Parser (Unit {0} × (Placed P (TypeTree P) × (Option (Placed P (ValueTree P)) × Option (Directives P))))
   input_value_rest n = mark is_colon ⊙ placed m (type m n) ⊙ try is_equals (default_value m n) ⊙ try is_at (directives m constant n)
 
-  -- what stands behind the arguments of a field
+  -- what follows the arguments of a field
   abbrev pub field_end : ℕ → Parser (Unit {0} × (TypeTree P × Option (Directives P)))
   field_end n = mark is_colon ⊙ type m n ⊙ try is_at (directives m constant n)
 
-  -- what stands behind the name of a field
+  -- what follows the name of a field
   abbrev pub field_rest : ℕ → Parser (Option (InputValues P) × (Unit {0} × (TypeTree P × Option (Directives P))))
   field_rest n = try is_open_paren (arguments_definition m n) ⊙ field_end n
 
-  -- what stands behind the arguments of a directive's definition
+  -- what follows the arguments of a directive's definition
   abbrev pub directive_tail : ℕ → Parser (Option (Directives P) × (Option (Unit {0}) × (Unit {0} × List DirectiveLocation)))
   directive_tail n = try is_at (directives m constant n) ⊙ directive_end
 
-  -- what stands behind the name of a directive
+  -- what follows the name of a directive
   abbrev pub directive_rest : ℕ → Parser (Option (InputValues P) × (Option (Directives P) × (Option (Unit {0}) × (Unit {0} × List DirectiveLocation))))
   directive_rest n = try is_open_paren (arguments_definition m n) ⊙ directive_tail n
 
@@ -70,6 +70,6 @@ module _ {P : Type 0} (m : Meaning P) where
   abbrev pub some_roots : Parser (List (Placed P (RootOperationTree P)))
   some_roots = some is_operation_type (placed m (root_operation_type_definition m))
 
-  -- names that are found, and the others after them, each after a mark
+  -- names already found, and the others after them, each after a mark
   abbrev pub other_names : (Terminal → Bool) → List (Text P) → Parser (List (Text P))
   other_names is found = others is (name m) found

@@ -1,4 +1,4 @@
--- Private: leads to `Derives` and `Says`. What the parts of definitions in memory show, as the grammar has them.
+-- Private: leads to `Derives` and `Says`. The parts of definitions in memory, as trees of the grammar.
 use Rattle.std.specs.Prelude.{List, map, Option, Vec}
 use Rattle.std.specs.Option.{option_map}
 use Rattle.std.specs.declared.alloc.Global.{Global}
@@ -13,7 +13,7 @@ use Rattle.tree_directives.specs.declared.directive.DirectiveList.{DirectiveList
 use Rattle.tree_directives.specs.declared.directive_location.DirectiveLocation.{DirectiveLocation}
 use Rattle.tree_directives.specs.declared.input_value.InputValueDefinition.{InputValueDefinition}
 
--- argument definitions, if there are any
+-- argument definitions, if they are there
 abbrev pub arguments_view : Option (Vec (Node InputValueDefinition) Global) → Option (InputValues Place)
 arguments_view vs = option_map (λ v. map (node_tree input_value_tree) v.items) vs
 

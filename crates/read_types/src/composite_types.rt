@@ -12,8 +12,8 @@ use crate::{
     optional_union_member_types,
 };
 use graphql_names::{FileId, Node};
-use read_operations::{Stop, directives_or_none, expect, name, optional_directives};
-use read_tokens::{Source, Terminal};
+use read_operations::{ParseError, directives_or_none, expect, name, optional_directives};
+use read_tokens::{Terminal, TokenCursor};
 use std::alloc::Global;
 use tree_composite_types::{InterfaceTypeExtension, ObjectTypeExtension, UnionTypeExtension};
 use tree_directives::DirectiveList;
@@ -23,7 +23,7 @@ use tree_type_members::FieldDefinition;
 /// What follows the name of an object or an interface: `ImplementsInterfaces? Directives? FieldsDefinition?`.
 fn fields_rest(
     alloc: Global,
-    tokens: &mut Source<'_>,
+    tokens: &mut TokenCursor<'_>,
     file: FileId,
     depth: usize,
 ) -> Result<
@@ -32,7 +32,7 @@ fn fields_rest(
         Option<DirectiveList>,
         Option<Vec<Node<FieldDefinition>>>,
     ),
-    Stop,
+    ParseError,
 >
     ensures { Reads fields_rest_view (steps.fields_rest (in_file file) depth tokens.old) result tokens.new }
 {
@@ -46,10 +46,10 @@ fn fields_rest(
 #[tactic(auto, unfolding(read_grammar::specs::TypeSystemReading::object_type))]
 pub fn object_type(
     alloc: Global,
-    tokens: &mut Source<'_>,
+    tokens: &mut TokenCursor<'_>,
     file: FileId,
     depth: usize,
-) -> Result<Kind, Stop>
+) -> Result<Kind, ParseError>
     ensures { Reads kind_tree (steps.object_kind (in_file file) depth tokens.old) result tokens.new }
 {
     expect(tokens, Terminal::Type)?;
@@ -67,10 +67,10 @@ pub fn object_type(
 #[tactic(auto, unfolding(read_grammar::specs::TypeSystemReading::interface_type))]
 pub fn interface_type(
     alloc: Global,
-    tokens: &mut Source<'_>,
+    tokens: &mut TokenCursor<'_>,
     file: FileId,
     depth: usize,
-) -> Result<Kind, Stop>
+) -> Result<Kind, ParseError>
     ensures { Reads kind_tree (steps.interface_kind (in_file file) depth tokens.old) result tokens.new }
 {
     expect(tokens, Terminal::Interface)?;
@@ -87,10 +87,10 @@ pub fn interface_type(
 /// What follows the name of a union: `Directives? UnionMemberTypes?`.
 fn union_rest(
     alloc: Global,
-    tokens: &mut Source<'_>,
+    tokens: &mut TokenCursor<'_>,
     file: FileId,
     depth: usize,
-) -> Result<(Option<DirectiveList>, Option<Vec<NamedType>>), Stop>
+) -> Result<(Option<DirectiveList>, Option<Vec<NamedType>>), ParseError>
     ensures { Reads union_rest_view (steps.union_rest (in_file file) depth tokens.old) result tokens.new }
 {
     let directives = optional_directives(alloc, tokens, file, true, depth)?;
@@ -102,10 +102,10 @@ fn union_rest(
 #[tactic(auto, unfolding(read_grammar::specs::TypeSystemReading::union_type))]
 pub fn union_type(
     alloc: Global,
-    tokens: &mut Source<'_>,
+    tokens: &mut TokenCursor<'_>,
     file: FileId,
     depth: usize,
-) -> Result<Kind, Stop>
+) -> Result<Kind, ParseError>
     ensures { Reads kind_tree (steps.union_kind (in_file file) depth tokens.old) result tokens.new }
 {
     expect(tokens, Terminal::Union)?;

@@ -17,8 +17,8 @@ use crate::kind::Kind;
 use crate::schema::schema_definition;
 use crate::types::type_definition;
 use graphql_names::{FileId, Node, NodeStr, SourceSpan};
-use read_operations::{Definition, Stop, begin, next_is, optional_description, since};
-use read_tokens::{Source, Terminal};
+use read_operations::{Definition, ParseError, begin, next_is, optional_description, since};
+use read_tokens::{Terminal, TokenCursor};
 use std::alloc::{AllocError, Global};
 
 /// A definition of this value, at a place.
@@ -33,10 +33,10 @@ where
 /// SchemaDefinition or TypeDefinition, after its description.
 fn definition_kind(
     alloc: Global,
-    tokens: &mut Source<'_>,
+    tokens: &mut TokenCursor<'_>,
     file: FileId,
     depth: usize,
-) -> Result<Kind, Stop>
+) -> Result<Kind, ParseError>
     ensures { Reads kind_tree (steps.definition_kind (in_file file) depth tokens.old) result tokens.new }
 {
     if next_is(tokens, Terminal::Schema) {
@@ -75,11 +75,11 @@ struct Heading {
 /// The definition of the schema or of a type, with this heading.
 fn described_kind(
     alloc: Global,
-    tokens: &mut Source<'_>,
+    tokens: &mut TokenCursor<'_>,
     file: FileId,
     depth: usize,
     heading: Heading,
-) -> Result<Definition, Stop>
+) -> Result<Definition, ParseError>
     ensures { Reads definition_tree (steps.kind_from (in_file file) heading.begin (option_map text_tree heading.description) depth tokens.old) result tokens.new }
 {
     let Heading { begin, description } = heading;
@@ -91,11 +91,11 @@ fn described_kind(
 /// The definition of a directive, with this heading.
 fn described_directive(
     alloc: Global,
-    tokens: &mut Source<'_>,
+    tokens: &mut TokenCursor<'_>,
     file: FileId,
     depth: usize,
     heading: Heading,
-) -> Result<Definition, Stop>
+) -> Result<Definition, ParseError>
     ensures { Reads definition_tree (steps.directive_from (in_file file) heading.begin (option_map text_tree heading.description) depth tokens.old) result tokens.new }
 {
     let Heading { begin, description } = heading;
@@ -109,10 +109,10 @@ fn described_directive(
 /// the description, where it has one.
 pub fn type_system_definition(
     alloc: Global,
-    tokens: &mut Source<'_>,
+    tokens: &mut TokenCursor<'_>,
     file: FileId,
     depth: usize,
-) -> Result<Definition, Stop>
+) -> Result<Definition, ParseError>
     ensures { Reads definition_tree (reading.type_system_definition (in_file file) depth tokens.old) result tokens.new }
 {
     let begin = begin(tokens);

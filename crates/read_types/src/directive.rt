@@ -13,15 +13,15 @@ ghost use Rattle.read_types.specs.MemberViews.{directive_rest_view};
 use crate::input_value_list::{input_values_or_none, optional_arguments_definition};
 use crate::location_list::directive_locations;
 use graphql_names::{FileId, Node};
-use read_operations::{Stop, directives_or_none, expect, name, next_is, optional_directives};
-use read_tokens::{Source, Terminal};
+use read_operations::{ParseError, directives_or_none, expect, name, next_is, optional_directives};
+use read_tokens::{Terminal, TokenCursor};
 use std::alloc::Global;
 use tree_directives::{
     DirectiveDefinition, DirectiveList, DirectiveLocation, InputValueDefinition,
 };
 
 /// `"directive" "@"`
-fn directive_marks(tokens: &mut Source<'_>) -> Result<(), Stop>
+fn directive_marks(tokens: &mut TokenCursor<'_>) -> Result<(), ParseError>
     ensures { Reads (λ x. (tt, tt)) (steps.directive_marks tokens.old) result tokens.new }
 {
     expect(tokens, Terminal::Directive)?;
@@ -30,8 +30,8 @@ fn directive_marks(tokens: &mut Source<'_>) -> Result<(), Stop>
 }
 
 /// `repeatable`, or nothing.
-// `Some(())` and no `bool`: the grammar tells whether a part is there.
-fn optional_repeatable(tokens: &mut Source<'_>) -> Result<Option<()>, Stop>
+// `Some(())` rather than a `bool`, as an optional part of the grammar is an option.
+fn optional_repeatable(tokens: &mut TokenCursor<'_>) -> Result<Option<()>, ParseError>
     ensures { Reads (λ x. x) (read.try kinds.is_repeatable (read.mark kinds.is_repeatable) tokens.old) result tokens.new }
 {
     if !next_is(tokens, Terminal::Repeatable) {
@@ -41,11 +41,11 @@ fn optional_repeatable(tokens: &mut Source<'_>) -> Result<Option<()>, Stop>
 }
 
 /// What follows the directives of a directive's definition: `"repeatable"? "on" DirectiveLocations`.
-// Read in steps, each with two or three parts: so few are owned at each `?`.
+// Read in steps of two or three parts, so that few values are owned at each `?`.
 fn directive_end(
     alloc: Global,
-    tokens: &mut Source<'_>,
-) -> Result<(Option<()>, Vec<DirectiveLocation>), Stop>
+    tokens: &mut TokenCursor<'_>,
+) -> Result<(Option<()>, Vec<DirectiveLocation>), ParseError>
     ensures { Reads (λ x. (x.0, (tt, x.1.items))) (steps.directive_end tokens.old) result tokens.new }
 {
     let repeatable = optional_repeatable(tokens)?;
@@ -58,10 +58,10 @@ fn directive_end(
 /// without variables in the values.
 fn directive_tail(
     alloc: Global,
-    tokens: &mut Source<'_>,
+    tokens: &mut TokenCursor<'_>,
     file: FileId,
     depth: usize,
-) -> Result<(Option<DirectiveList>, Option<()>, Vec<DirectiveLocation>), Stop>
+) -> Result<(Option<DirectiveList>, Option<()>, Vec<DirectiveLocation>), ParseError>
     ensures { Reads (λ x. (option_map directives_tree x.0, (x.1, (tt, x.2.items)))) (steps.directive_tail (in_file file) depth tokens.old) result tokens.new }
 {
     let directives = optional_directives(alloc, tokens, file, true, depth)?;
@@ -73,7 +73,7 @@ fn directive_tail(
 /// `ArgumentsDefinition? Directives? "repeatable"? "on" DirectiveLocations`.
 fn directive_rest(
     alloc: Global,
-    tokens: &mut Source<'_>,
+    tokens: &mut TokenCursor<'_>,
     file: FileId,
     depth: usize,
 ) -> Result<
@@ -83,7 +83,7 @@ fn directive_rest(
         Option<()>,
         Vec<DirectiveLocation>,
     ),
-    Stop,
+    ParseError,
 >
     ensures { Reads directive_rest_view (steps.directive_rest (in_file file) depth tokens.old) result tokens.new }
 {
@@ -97,10 +97,10 @@ fn directive_rest(
 /// October 2021).
 pub fn directive_definition(
     alloc: Global,
-    tokens: &mut Source<'_>,
+    tokens: &mut TokenCursor<'_>,
     file: FileId,
     depth: usize,
-) -> Result<DirectiveDefinition, Stop>
+) -> Result<DirectiveDefinition, ParseError>
     ensures { Reads directive_definition_tree (reading.directive_definition (in_file file) depth tokens.old) result tokens.new }
 {
     directive_marks(tokens)?;

@@ -13,10 +13,10 @@ ghost use Rattle.read_types.specs.MemberSteps as steps;
 use crate::described::begins_described_name;
 use graphql_names::{FileId, Node};
 use read_operations::{
-    Stop, begin, directives_or_none, enum_value, expect, next_is, open, optional_description,
+    ParseError, begin, directives_or_none, enum_value, expect, next_is, open, optional_description,
     optional_directives, since,
 };
-use read_tokens::{Source, Terminal};
+use read_tokens::{Terminal, TokenCursor};
 use std::alloc::Global;
 use tree_type_members::EnumValueDefinition;
 
@@ -24,10 +24,10 @@ use tree_type_members::EnumValueDefinition;
 #[tactic(auto, unfolding(read_grammar::specs::TypeSystemReading::enum_value_definition))]
 fn enum_value_definition(
     alloc: Global,
-    tokens: &mut Source<'_>,
+    tokens: &mut TokenCursor<'_>,
     file: FileId,
     depth: usize,
-) -> Result<EnumValueDefinition, Stop>
+) -> Result<EnumValueDefinition, ParseError>
     ensures { Reads enum_value_tree (reading.enum_value_definition (in_file file) depth tokens.old) result tokens.new }
 {
     let description = optional_description(alloc, tokens, file)?;
@@ -43,10 +43,10 @@ fn enum_value_definition(
 /// The definition of an enum value with its place.
 fn placed_enum_value(
     alloc: Global,
-    tokens: &mut Source<'_>,
+    tokens: &mut TokenCursor<'_>,
     file: FileId,
     depth: usize,
-) -> Result<Node<EnumValueDefinition>, Stop>
+) -> Result<Node<EnumValueDefinition>, ParseError>
     ensures { Reads (node_tree enum_value_tree) (read.placed (in_file file) (reading.enum_value_definition (in_file file) depth) tokens.old) result tokens.new }
 {
     let begin = begin(tokens);
@@ -58,14 +58,14 @@ fn placed_enum_value(
 /// One or more definitions of enum values.
 fn some_enum_values(
     alloc: Global,
-    tokens: &mut Source<'_>,
+    tokens: &mut TokenCursor<'_>,
     file: FileId,
     depth: usize,
-) -> Result<Vec<Node<EnumValueDefinition>>, Stop>
+) -> Result<Vec<Node<EnumValueDefinition>>, ParseError>
     ensures { Reads (λ v. map (node_tree enum_value_tree) v.items) (steps.some_enum_values (in_file file) depth tokens.old) result tokens.new }
 {
     if !begins_described_name(tokens) {
-        return Err(Stop::Unexpected);
+        return Err(ParseError::Unexpected);
     }
     let mut found = Vec::new(alloc);
     'turns: while begins_described_name(tokens) {
@@ -77,10 +77,10 @@ fn some_enum_values(
 /// EnumValuesDefinition: `"{" EnumValueDefinition+ "}"`.
 pub fn enum_values_definition(
     alloc: Global,
-    tokens: &mut Source<'_>,
+    tokens: &mut TokenCursor<'_>,
     file: FileId,
     depth: usize,
-) -> Result<Vec<Node<EnumValueDefinition>>, Stop>
+) -> Result<Vec<Node<EnumValueDefinition>>, ParseError>
     ensures { Reads (λ v. map (node_tree enum_value_tree) v.items) (reading.enum_values_definition (in_file file) depth tokens.old) result tokens.new }
 {
     open(tokens, Terminal::OpenBrace, depth)?;
@@ -92,10 +92,10 @@ pub fn enum_values_definition(
 /// EnumValuesDefinition, or nothing.
 pub fn optional_enum_values_definition(
     alloc: Global,
-    tokens: &mut Source<'_>,
+    tokens: &mut TokenCursor<'_>,
     file: FileId,
     depth: usize,
-) -> Result<Option<Vec<Node<EnumValueDefinition>>>, Stop>
+) -> Result<Option<Vec<Node<EnumValueDefinition>>>, ParseError>
     ensures { Reads (option_map (λ v. map (node_tree enum_value_tree) v.items)) (read.try kinds.is_open_brace (reading.enum_values_definition (in_file file) depth) tokens.old) result tokens.new }
 {
     if !next_is(tokens, Terminal::OpenBrace) {
@@ -104,7 +104,7 @@ pub fn optional_enum_values_definition(
     Ok(Some(enum_values_definition(alloc, tokens, file, depth)?))
 }
 
-/// The enum values, of which there are none where they are left out.
+/// The enum values; none if they are left out.
 pub fn enum_values_or_none(
     alloc: Global,
     found: Option<Vec<Node<EnumValueDefinition>>>,

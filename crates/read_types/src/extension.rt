@@ -13,17 +13,17 @@ use crate::kind::Kind;
 use crate::schema::schema_extension;
 use crate::types::type_definition;
 use graphql_names::{FileId, SourceSpan};
-use read_operations::{Definition, Stop, begin, expect, next_is, since};
-use read_tokens::{Source, Terminal};
+use read_operations::{Definition, ParseError, begin, expect, next_is, since};
+use read_tokens::{Terminal, TokenCursor};
 use std::alloc::{AllocError, Global};
 
 /// What an extension says after `extend`, without a look at its parts.
 fn extension_kind(
     alloc: Global,
-    tokens: &mut Source<'_>,
+    tokens: &mut TokenCursor<'_>,
     file: FileId,
     depth: usize,
-) -> Result<Kind, Stop>
+) -> Result<Kind, ParseError>
     ensures { Reads kind_tree (steps.extension_kind (in_file file) depth tokens.old) result tokens.new }
 {
     if next_is(tokens, Terminal::Schema) {
@@ -36,16 +36,16 @@ fn extension_kind(
 #[tactic(auto, unfolding(read_grammar::specs::DocumentReading::extension))]
 fn extension(
     alloc: Global,
-    tokens: &mut Source<'_>,
+    tokens: &mut TokenCursor<'_>,
     file: FileId,
     depth: usize,
-) -> Result<Kind, Stop>
+) -> Result<Kind, ParseError>
     ensures { Reads kind_tree (reading.extension (in_file file) depth tokens.old) result tokens.new }
 {
     let found = extension_kind(alloc, tokens, file, depth)?;
     if !found.has_part() {
         drop(found);
-        return Err(Stop::Unexpected);
+        return Err(ParseError::Unexpected);
     }
     Ok(found)
 }
@@ -69,10 +69,10 @@ fn extended(alloc: Global, place: SourceSpan, kind: Kind) -> Result<Definition, 
 #[tactic(auto, unfolding(read_grammar::specs::DocumentReading::type_system_extension))]
 pub fn type_system_extension(
     alloc: Global,
-    tokens: &mut Source<'_>,
+    tokens: &mut TokenCursor<'_>,
     file: FileId,
     depth: usize,
-) -> Result<Definition, Stop>
+) -> Result<Definition, ParseError>
     ensures { Reads definition_tree (reading.type_system_extension (in_file file) depth tokens.old) result tokens.new }
 {
     let begin = begin(tokens);

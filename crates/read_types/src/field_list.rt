@@ -17,22 +17,22 @@ use crate::described::{begins_described_name, described_name};
 use crate::input_value_list::{input_values_or_none, optional_arguments_definition};
 use graphql_names::{FileId, Node};
 use read_operations::{
-    Stop, begin, directives_or_none, expect, next_is, open, optional_directives, since, ty,
+    ParseError, begin, directives_or_none, expect, next_is, open, optional_directives, since, ty,
 };
-use read_tokens::{Source, Terminal};
+use read_tokens::{Terminal, TokenCursor};
 use std::alloc::Global;
 use tree_directives::{DirectiveList, InputValueDefinition};
 use tree_literals::Type;
 use tree_type_members::FieldDefinition;
 
 /// What follows the arguments of a field: `":" Type Directives?`, without variables in its values.
-// Apart from what is before it, so that few parts live across a `?` in any function.
+// Separate from what comes before, so that few parts live across a `?` in any function.
 fn field_end(
     alloc: Global,
-    tokens: &mut Source<'_>,
+    tokens: &mut TokenCursor<'_>,
     file: FileId,
     depth: usize,
-) -> Result<(Type, Option<DirectiveList>), Stop>
+) -> Result<(Type, Option<DirectiveList>), ParseError>
     ensures { Reads (λ x. (tt, (type_tree x.0, option_map directives_tree x.1))) (steps.field_end (in_file file) depth tokens.old) result tokens.new }
 {
     expect(tokens, Terminal::Colon)?;
@@ -44,7 +44,7 @@ fn field_end(
 /// What follows the name of a field: `ArgumentsDefinition? ":" Type Directives?`.
 fn field_rest(
     alloc: Global,
-    tokens: &mut Source<'_>,
+    tokens: &mut TokenCursor<'_>,
     file: FileId,
     depth: usize,
 ) -> Result<
@@ -53,7 +53,7 @@ fn field_rest(
         Type,
         Option<DirectiveList>,
     ),
-    Stop,
+    ParseError,
 >
     ensures { Reads field_rest_view (steps.field_rest (in_file file) depth tokens.old) result tokens.new }
 {
@@ -65,10 +65,10 @@ fn field_rest(
 /// FieldDefinition: `Description? Name ArgumentsDefinition? ":" Type Directives?`.
 fn field_definition(
     alloc: Global,
-    tokens: &mut Source<'_>,
+    tokens: &mut TokenCursor<'_>,
     file: FileId,
     depth: usize,
-) -> Result<FieldDefinition, Stop>
+) -> Result<FieldDefinition, ParseError>
     ensures { Reads field_definition_tree (reading.field_definition (in_file file) depth tokens.old) result tokens.new }
 {
     let (description, name) = described_name(alloc, tokens, file)?;
@@ -85,10 +85,10 @@ fn field_definition(
 /// The definition of a field with its place.
 fn placed_field(
     alloc: Global,
-    tokens: &mut Source<'_>,
+    tokens: &mut TokenCursor<'_>,
     file: FileId,
     depth: usize,
-) -> Result<Node<FieldDefinition>, Stop>
+) -> Result<Node<FieldDefinition>, ParseError>
     ensures { Reads (node_tree field_definition_tree) (read.placed (in_file file) (reading.field_definition (in_file file) depth) tokens.old) result tokens.new }
 {
     let begin = begin(tokens);
@@ -100,14 +100,14 @@ fn placed_field(
 /// One or more definitions of fields.
 fn some_fields(
     alloc: Global,
-    tokens: &mut Source<'_>,
+    tokens: &mut TokenCursor<'_>,
     file: FileId,
     depth: usize,
-) -> Result<Vec<Node<FieldDefinition>>, Stop>
+) -> Result<Vec<Node<FieldDefinition>>, ParseError>
     ensures { Reads (λ v. map (node_tree field_definition_tree) v.items) (steps.some_fields (in_file file) depth tokens.old) result tokens.new }
 {
     if !begins_described_name(tokens) {
-        return Err(Stop::Unexpected);
+        return Err(ParseError::Unexpected);
     }
     let mut found = Vec::new(alloc);
     'turns: while begins_described_name(tokens) {
@@ -119,10 +119,10 @@ fn some_fields(
 /// FieldsDefinition: `"{" FieldDefinition+ "}"`.
 pub fn fields_definition(
     alloc: Global,
-    tokens: &mut Source<'_>,
+    tokens: &mut TokenCursor<'_>,
     file: FileId,
     depth: usize,
-) -> Result<Vec<Node<FieldDefinition>>, Stop>
+) -> Result<Vec<Node<FieldDefinition>>, ParseError>
     ensures { Reads (λ v. map (node_tree field_definition_tree) v.items) (reading.fields_definition (in_file file) depth tokens.old) result tokens.new }
 {
     open(tokens, Terminal::OpenBrace, depth)?;
@@ -134,10 +134,10 @@ pub fn fields_definition(
 /// FieldsDefinition, or nothing.
 pub fn optional_fields_definition(
     alloc: Global,
-    tokens: &mut Source<'_>,
+    tokens: &mut TokenCursor<'_>,
     file: FileId,
     depth: usize,
-) -> Result<Option<Vec<Node<FieldDefinition>>>, Stop>
+) -> Result<Option<Vec<Node<FieldDefinition>>>, ParseError>
     ensures { Reads (option_map (λ v. map (node_tree field_definition_tree) v.items)) (read.try kinds.is_open_brace (reading.fields_definition (in_file file) depth) tokens.old) result tokens.new }
 {
     if !next_is(tokens, Terminal::OpenBrace) {
@@ -146,7 +146,7 @@ pub fn optional_fields_definition(
     Ok(Some(fields_definition(alloc, tokens, file, depth)?))
 }
 
-/// The fields, of which there are none where they are left out.
+/// The fields; none if they are left out.
 pub fn fields_or_none(
     alloc: Global,
     found: Option<Vec<Node<FieldDefinition>>>,

@@ -12,8 +12,8 @@ use crate::{
     optional_input_fields_definition,
 };
 use graphql_names::{FileId, Node};
-use read_operations::{Stop, directives_or_none, expect, name, optional_directives};
-use read_tokens::{Source, Terminal};
+use read_operations::{ParseError, directives_or_none, expect, name, optional_directives};
+use read_tokens::{Terminal, TokenCursor};
 use std::alloc::Global;
 use tree_directives::{DirectiveList, InputValueDefinition};
 use tree_input_types::{EnumTypeExtension, InputObjectTypeExtension, ScalarTypeExtension};
@@ -23,10 +23,10 @@ use tree_type_members::EnumValueDefinition;
 #[tactic(auto, unfolding(read_grammar::specs::TypeSystemReading::scalar_type))]
 pub fn scalar_type(
     alloc: Global,
-    tokens: &mut Source<'_>,
+    tokens: &mut TokenCursor<'_>,
     file: FileId,
     depth: usize,
-) -> Result<Kind, Stop>
+) -> Result<Kind, ParseError>
     ensures { Reads kind_tree (steps.scalar_kind (in_file file) depth tokens.old) result tokens.new }
 {
     expect(tokens, Terminal::Scalar)?;
@@ -41,7 +41,7 @@ pub fn scalar_type(
 /// What follows the name of an enum: `Directives? EnumValuesDefinition?`.
 fn enum_rest(
     alloc: Global,
-    tokens: &mut Source<'_>,
+    tokens: &mut TokenCursor<'_>,
     file: FileId,
     depth: usize,
 ) -> Result<
@@ -49,7 +49,7 @@ fn enum_rest(
         Option<DirectiveList>,
         Option<Vec<Node<EnumValueDefinition>>>,
     ),
-    Stop,
+    ParseError,
 >
     ensures { Reads enum_rest_view (steps.enum_rest (in_file file) depth tokens.old) result tokens.new }
 {
@@ -62,10 +62,10 @@ fn enum_rest(
 #[tactic(auto, unfolding(read_grammar::specs::TypeSystemReading::enum_type))]
 pub fn enum_type(
     alloc: Global,
-    tokens: &mut Source<'_>,
+    tokens: &mut TokenCursor<'_>,
     file: FileId,
     depth: usize,
-) -> Result<Kind, Stop>
+) -> Result<Kind, ParseError>
     ensures { Reads kind_tree (steps.enum_kind (in_file file) depth tokens.old) result tokens.new }
 {
     expect(tokens, Terminal::Enum)?;
@@ -81,7 +81,7 @@ pub fn enum_type(
 /// What follows the name of an input object: `Directives? InputFieldsDefinition?`.
 fn input_object_rest(
     alloc: Global,
-    tokens: &mut Source<'_>,
+    tokens: &mut TokenCursor<'_>,
     file: FileId,
     depth: usize,
 ) -> Result<
@@ -89,7 +89,7 @@ fn input_object_rest(
         Option<DirectiveList>,
         Option<Vec<Node<InputValueDefinition>>>,
     ),
-    Stop,
+    ParseError,
 >
     ensures { Reads input_object_rest_view (steps.input_object_rest (in_file file) depth tokens.old) result tokens.new }
 {
@@ -102,10 +102,10 @@ fn input_object_rest(
 #[tactic(auto, unfolding(read_grammar::specs::TypeSystemReading::input_object_type))]
 pub fn input_object_type(
     alloc: Global,
-    tokens: &mut Source<'_>,
+    tokens: &mut TokenCursor<'_>,
     file: FileId,
     depth: usize,
-) -> Result<Kind, Stop>
+) -> Result<Kind, ParseError>
     ensures { Reads kind_tree (steps.input_object_kind (in_file file) depth tokens.old) result tokens.new }
 {
     expect(tokens, Terminal::Input)?;

@@ -14,22 +14,22 @@ ghost use Rattle.read_types.specs.MemberViews.{input_value_rest_view};
 use crate::described::{begins_described_name, described_name};
 use graphql_names::{FileId, Node};
 use read_operations::{
-    Stop, begin, directives_or_none, expect, next_is, open, optional_default, optional_directives,
-    placed_type, since,
+    ParseError, begin, directives_or_none, expect, next_is, open, optional_default,
+    optional_directives, placed_type, since,
 };
-use read_tokens::{Source, Terminal};
+use read_tokens::{Terminal, TokenCursor};
 use std::alloc::Global;
 use tree_directives::{DirectiveList, InputValueDefinition};
 use tree_literals::{Type, Value};
 
 /// What follows the name of an input value: `":" Type DefaultValue? Directives?`, without variables in its values.
-// Apart from what is before it, so that few parts live across a `?` in any function.
+// Separate from what comes before, so that few parts live across a `?` in any function.
 fn input_value_rest(
     alloc: Global,
-    tokens: &mut Source<'_>,
+    tokens: &mut TokenCursor<'_>,
     file: FileId,
     depth: usize,
-) -> Result<(Node<Type>, Option<Node<Value>>, Option<DirectiveList>), Stop>
+) -> Result<(Node<Type>, Option<Node<Value>>, Option<DirectiveList>), ParseError>
     ensures { Reads input_value_rest_view (steps.input_value_rest (in_file file) depth tokens.old) result tokens.new }
 {
     expect(tokens, Terminal::Colon)?;
@@ -42,10 +42,10 @@ fn input_value_rest(
 /// InputValueDefinition: `Description? Name ":" Type DefaultValue? Directives?`.
 fn input_value_definition(
     alloc: Global,
-    tokens: &mut Source<'_>,
+    tokens: &mut TokenCursor<'_>,
     file: FileId,
     depth: usize,
-) -> Result<InputValueDefinition, Stop>
+) -> Result<InputValueDefinition, ParseError>
     ensures { Reads input_value_tree (reading.input_value_definition (in_file file) depth tokens.old) result tokens.new }
 {
     let (description, name) = described_name(alloc, tokens, file)?;
@@ -62,10 +62,10 @@ fn input_value_definition(
 /// The definition of an input value with its place.
 fn placed_input_value(
     alloc: Global,
-    tokens: &mut Source<'_>,
+    tokens: &mut TokenCursor<'_>,
     file: FileId,
     depth: usize,
-) -> Result<Node<InputValueDefinition>, Stop>
+) -> Result<Node<InputValueDefinition>, ParseError>
     ensures { Reads (node_tree input_value_tree) (read.placed (in_file file) (reading.input_value_definition (in_file file) depth) tokens.old) result tokens.new }
 {
     let begin = begin(tokens);
@@ -77,14 +77,14 @@ fn placed_input_value(
 /// One or more definitions of input values.
 fn some_input_values(
     alloc: Global,
-    tokens: &mut Source<'_>,
+    tokens: &mut TokenCursor<'_>,
     file: FileId,
     depth: usize,
-) -> Result<Vec<Node<InputValueDefinition>>, Stop>
+) -> Result<Vec<Node<InputValueDefinition>>, ParseError>
     ensures { Reads (λ v. map (node_tree input_value_tree) v.items) (steps.some_input_values (in_file file) depth tokens.old) result tokens.new }
 {
     if !begins_described_name(tokens) {
-        return Err(Stop::Unexpected);
+        return Err(ParseError::Unexpected);
     }
     let mut found = Vec::new(alloc);
     'turns: while begins_described_name(tokens) {
@@ -96,10 +96,10 @@ fn some_input_values(
 /// ArgumentsDefinition: `"(" InputValueDefinition+ ")"`.
 pub fn arguments_definition(
     alloc: Global,
-    tokens: &mut Source<'_>,
+    tokens: &mut TokenCursor<'_>,
     file: FileId,
     depth: usize,
-) -> Result<Vec<Node<InputValueDefinition>>, Stop>
+) -> Result<Vec<Node<InputValueDefinition>>, ParseError>
     ensures { Reads (λ v. map (node_tree input_value_tree) v.items) (reading.arguments_definition (in_file file) depth tokens.old) result tokens.new }
 {
     open(tokens, Terminal::OpenParen, depth)?;
@@ -111,10 +111,10 @@ pub fn arguments_definition(
 /// InputFieldsDefinition: `"{" InputValueDefinition+ "}"`.
 pub fn input_fields_definition(
     alloc: Global,
-    tokens: &mut Source<'_>,
+    tokens: &mut TokenCursor<'_>,
     file: FileId,
     depth: usize,
-) -> Result<Vec<Node<InputValueDefinition>>, Stop>
+) -> Result<Vec<Node<InputValueDefinition>>, ParseError>
     ensures { Reads (λ v. map (node_tree input_value_tree) v.items) (reading.input_fields_definition (in_file file) depth tokens.old) result tokens.new }
 {
     open(tokens, Terminal::OpenBrace, depth)?;
@@ -126,10 +126,10 @@ pub fn input_fields_definition(
 /// ArgumentsDefinition, or nothing.
 pub fn optional_arguments_definition(
     alloc: Global,
-    tokens: &mut Source<'_>,
+    tokens: &mut TokenCursor<'_>,
     file: FileId,
     depth: usize,
-) -> Result<Option<Vec<Node<InputValueDefinition>>>, Stop>
+) -> Result<Option<Vec<Node<InputValueDefinition>>>, ParseError>
     ensures { Reads (option_map (λ v. map (node_tree input_value_tree) v.items)) (read.try kinds.is_open_paren (reading.arguments_definition (in_file file) depth) tokens.old) result tokens.new }
 {
     if !next_is(tokens, Terminal::OpenParen) {
@@ -141,10 +141,10 @@ pub fn optional_arguments_definition(
 /// InputFieldsDefinition, or nothing.
 pub fn optional_input_fields_definition(
     alloc: Global,
-    tokens: &mut Source<'_>,
+    tokens: &mut TokenCursor<'_>,
     file: FileId,
     depth: usize,
-) -> Result<Option<Vec<Node<InputValueDefinition>>>, Stop>
+) -> Result<Option<Vec<Node<InputValueDefinition>>>, ParseError>
     ensures { Reads (option_map (λ v. map (node_tree input_value_tree) v.items)) (read.try kinds.is_open_brace (reading.input_fields_definition (in_file file) depth) tokens.old) result tokens.new }
 {
     if !next_is(tokens, Terminal::OpenBrace) {
@@ -153,7 +153,7 @@ pub fn optional_input_fields_definition(
     Ok(Some(input_fields_definition(alloc, tokens, file, depth)?))
 }
 
-/// The input values, of which there are none where they are left out.
+/// The input values; none if they are left out.
 pub fn input_values_or_none(
     alloc: Global,
     found: Option<Vec<Node<InputValueDefinition>>>,

@@ -44,8 +44,8 @@ pub use name_list::{
 };
 pub use root_list::{optional_roots, roots, roots_or_none};
 
-// Of the crates beneath, for those above.
+// Re-exported from the crates below, for the crates above.
 pub use read_operations::{
-    Definition, Document, SourceFile, Stop, begin, fragment_definition, next_is, placed_fragment,
-    placed_operation, selections, since, ty,
+    Definition, Document, ParseError, SourceFile, begin, fragment_definition, next_is,
+    placed_fragment, placed_operation, selections, since, ty,
 };

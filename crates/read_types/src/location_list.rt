@@ -7,8 +7,8 @@ ghost use Rattle.read_grammar.specs.Reading.{Reads};
 ghost use Rattle.read_grammar.specs.TypeSystemReading as reading;
 ghost use Rattle.read_types.specs.MemberSteps as steps;
 
-use read_operations::{Stop, expect, next_is};
-use read_tokens::{Source, Terminal};
+use read_operations::{ParseError, expect, next_is};
+use read_tokens::{Terminal, TokenCursor};
 use std::alloc::Global;
 use tree_directives::DirectiveLocation;
 
@@ -35,7 +35,7 @@ const LOCATIONS: [DirectiveLocation; 19] = [
     DirectiveLocation::InputFieldDefinition,
 ];
 
-/// The first place of the table that is so written, and `DirectiveDefinition` where none is.
+/// The first place of the table with this name; `DirectiveDefinition` if none has it.
 #[tactic(auto, using(crate::proofs::Places::place_here, crate::proofs::Places::place_behind))]
 fn find_location(table: &[DirectiveLocation], text: &str) -> DirectiveLocation
     ensures { result ≡ named_among table.now text.now }
@@ -48,7 +48,7 @@ fn find_location(table: &[DirectiveLocation], text: &str) -> DirectiveLocation
     DirectiveLocation::DirectiveDefinition
 }
 
-/// The place that is so written; a token of the class Location is one of the twenty.
+/// The place with this name; a token of the class Location has the name of one of the twenty.
 #[tactic(auto, unfolding(read_grammar::specs::Locations::location_of))]
 fn location_named(text: &str) -> DirectiveLocation
     ensures { result ≡ location_of text.now }
@@ -57,26 +57,26 @@ fn location_named(text: &str) -> DirectiveLocation
 }
 
 /// DirectiveLocation: one of the twenty names.
-fn directive_location(tokens: &mut Source<'_>) -> Result<DirectiveLocation, Stop>
+fn directive_location(tokens: &mut TokenCursor<'_>) -> Result<DirectiveLocation, ParseError>
     ensures { Reads (λ x. x) (reading.directive_location tokens.old) result tokens.new }
 {
     if !next_is(tokens, Terminal::Location) {
-        return Err(Stop::Unexpected);
+        return Err(ParseError::Unexpected);
     }
     let text = tokens.skip();
     Ok(location_named(text))
 }
 
 /// One more place after `|`.
-fn next_location(tokens: &mut Source<'_>) -> Result<DirectiveLocation, Stop>
+fn next_location(tokens: &mut TokenCursor<'_>) -> Result<DirectiveLocation, ParseError>
     ensures { Reads (λ x. x) (read.behind kinds.is_pipe reading.directive_location tokens.old) result tokens.new }
 {
     expect(tokens, Terminal::Pipe)?;
     directive_location(tokens)
 }
 
-/// The first place, before which `|` may stand too.
-fn first_location(tokens: &mut Source<'_>) -> Result<DirectiveLocation, Stop>
+/// The first place; a `|` may also precede it.
+fn first_location(tokens: &mut TokenCursor<'_>) -> Result<DirectiveLocation, ParseError>
     ensures { Reads (λ x. x) (steps.first kinds.is_pipe reading.directive_location tokens.old) result tokens.new }
 {
     if next_is(tokens, Terminal::Pipe) {
@@ -87,9 +87,9 @@ fn first_location(tokens: &mut Source<'_>) -> Result<DirectiveLocation, Stop>
 
 /// The places that follow those found, each after `|`.
 fn other_locations(
-    tokens: &mut Source<'_>,
+    tokens: &mut TokenCursor<'_>,
     mut found: Vec<DirectiveLocation>,
-) -> Result<Vec<DirectiveLocation>, Stop>
+) -> Result<Vec<DirectiveLocation>, ParseError>
     ensures { Reads (λ v. v.items) (steps.others kinds.is_pipe reading.directive_location found.items tokens.old) result tokens.new }
 {
     'turns: while next_is(tokens, Terminal::Pipe) {
@@ -101,8 +101,8 @@ fn other_locations(
 /// DirectiveLocations: `"|"? DirectiveLocation ("|" DirectiveLocation)*`.
 pub fn directive_locations(
     alloc: Global,
-    tokens: &mut Source<'_>,
-) -> Result<Vec<DirectiveLocation>, Stop>
+    tokens: &mut TokenCursor<'_>,
+) -> Result<Vec<DirectiveLocation>, ParseError>
     ensures { Reads (λ v. v.items) (reading.directive_locations tokens.old) result tokens.new }
 {
     let first = first_location(tokens)?;

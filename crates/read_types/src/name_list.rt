@@ -11,20 +11,24 @@ ghost use Rattle.read_operations.specs.Meanings.{in_file};
 ghost use Rattle.read_types.specs.MemberSteps as steps;
 
 use graphql_names::{FileId, Name};
-use read_operations::{Stop, expect, name, next_is};
-use read_tokens::{Source, Terminal};
+use read_operations::{ParseError, expect, name, next_is};
+use read_tokens::{Terminal, TokenCursor};
 use std::alloc::Global;
 
 /// One more name after a mark.
-fn next_name(tokens: &mut Source<'_>, file: FileId, mark: Terminal) -> Result<Name, Stop>
+fn next_name(tokens: &mut TokenCursor<'_>, file: FileId, mark: Terminal) -> Result<Name, ParseError>
     ensures { Reads name_tree (read.behind (kinds.is mark) (values.name (in_file file)) tokens.old) result tokens.new }
 {
     expect(tokens, mark)?;
     name(tokens, file)
 }
 
-/// The first name, before which a mark may stand too.
-fn first_name(tokens: &mut Source<'_>, file: FileId, mark: Terminal) -> Result<Name, Stop>
+/// The first name; a mark may also precede it.
+fn first_name(
+    tokens: &mut TokenCursor<'_>,
+    file: FileId,
+    mark: Terminal,
+) -> Result<Name, ParseError>
     ensures { Reads name_tree (steps.first (kinds.is mark) (values.name (in_file file)) tokens.old) result tokens.new }
 {
     if next_is(tokens, mark) {
@@ -34,13 +38,13 @@ fn first_name(tokens: &mut Source<'_>, file: FileId, mark: Terminal) -> Result<N
 }
 
 /// The names that follow those found, each after a mark.
-// A function of its own for the loop, so that its `?` do not stand beside those for the first name.
+// A separate function for the loop, so that its `?` are not in one function with those for the first name.
 fn other_names(
-    tokens: &mut Source<'_>,
+    tokens: &mut TokenCursor<'_>,
     file: FileId,
     mark: Terminal,
     mut found: Vec<Name>,
-) -> Result<Vec<Name>, Stop>
+) -> Result<Vec<Name>, ParseError>
     ensures { Reads (λ v. map name_tree v.items) (steps.other_names (in_file file) (kinds.is mark) (map name_tree found.items) tokens.old) result tokens.new }
 {
     'turns: while next_is(tokens, mark) {
@@ -52,10 +56,10 @@ fn other_names(
 /// One or more names with marks between: `mark? Name (mark Name)*`.
 fn names(
     alloc: Global,
-    tokens: &mut Source<'_>,
+    tokens: &mut TokenCursor<'_>,
     file: FileId,
     mark: Terminal,
-) -> Result<Vec<Name>, Stop>
+) -> Result<Vec<Name>, ParseError>
     ensures { Reads (λ v. map name_tree v.items) (read.separated (kinds.is mark) (values.name (in_file file)) tokens.old) result tokens.new }
 {
     let first = first_name(tokens, file, mark)?;
@@ -68,9 +72,9 @@ fn names(
 #[tactic(auto, unfolding(read_grammar::specs::TypeSystemReading::implements_interfaces))]
 pub fn implements_interfaces(
     alloc: Global,
-    tokens: &mut Source<'_>,
+    tokens: &mut TokenCursor<'_>,
     file: FileId,
-) -> Result<Vec<Name>, Stop>
+) -> Result<Vec<Name>, ParseError>
     ensures { Reads (λ v. map name_tree v.items) (reading.implements_interfaces (in_file file) tokens.old) result tokens.new }
 {
     expect(tokens, Terminal::Implements)?;
@@ -80,9 +84,9 @@ pub fn implements_interfaces(
 /// ImplementsInterfaces, or nothing.
 pub fn optional_implements_interfaces(
     alloc: Global,
-    tokens: &mut Source<'_>,
+    tokens: &mut TokenCursor<'_>,
     file: FileId,
-) -> Result<Option<Vec<Name>>, Stop>
+) -> Result<Option<Vec<Name>>, ParseError>
     ensures { Reads (option_map (λ v. map name_tree v.items)) (read.try kinds.is_implements (reading.implements_interfaces (in_file file)) tokens.old) result tokens.new }
 {
     if !next_is(tokens, Terminal::Implements) {
@@ -95,9 +99,9 @@ pub fn optional_implements_interfaces(
 #[tactic(auto, unfolding(read_grammar::specs::TypeSystemReading::union_member_types))]
 pub fn union_member_types(
     alloc: Global,
-    tokens: &mut Source<'_>,
+    tokens: &mut TokenCursor<'_>,
     file: FileId,
-) -> Result<Vec<Name>, Stop>
+) -> Result<Vec<Name>, ParseError>
     ensures { Reads (λ v. map name_tree v.items) (reading.union_member_types (in_file file) tokens.old) result tokens.new }
 {
     expect(tokens, Terminal::Equals)?;
@@ -107,9 +111,9 @@ pub fn union_member_types(
 /// UnionMemberTypes, or nothing.
 pub fn optional_union_member_types(
     alloc: Global,
-    tokens: &mut Source<'_>,
+    tokens: &mut TokenCursor<'_>,
     file: FileId,
-) -> Result<Option<Vec<Name>>, Stop>
+) -> Result<Option<Vec<Name>>, ParseError>
     ensures { Reads (option_map (λ v. map name_tree v.items)) (read.try kinds.is_equals (reading.union_member_types (in_file file)) tokens.old) result tokens.new }
 {
     if !next_is(tokens, Terminal::Equals) {
@@ -118,7 +122,7 @@ pub fn optional_union_member_types(
     Ok(Some(union_member_types(alloc, tokens, file)?))
 }
 
-/// The names, of which there are none where they are left out.
+/// The names; none if they are left out.
 pub fn names_or_none(alloc: Global, found: Option<Vec<Name>>) -> Vec<Name>
     ensures { map name_tree result.items ≡ unwrap_or (option_map (λ v. map name_tree v.items) found) [] }
 {

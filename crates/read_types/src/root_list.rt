@@ -12,14 +12,14 @@ ghost use Rattle.read_operations.specs.Meanings.{in_file};
 ghost use Rattle.read_types.specs.MemberSteps as steps;
 
 use graphql_names::{FileId, Node};
-use read_operations::{Stop, begin, expect, name, next_is, open, operation_type, since};
-use read_tokens::{Source, Terminal};
+use read_operations::{ParseError, begin, expect, name, next_is, open, operation_type, since};
+use read_tokens::{Terminal, TokenCursor};
 use std::alloc::Global;
 use tree_literals::NamedType;
 use tree_operations::OperationType;
 
 /// Whether the next token is `query`, `mutation` or `subscription`.
-fn next_is_operation_type(tokens: &Source<'_>) -> bool
+fn next_is_operation_type(tokens: &TokenCursor<'_>) -> bool
     ensures { result ≡ kinds.next_is kinds.is_operation_type (input.next tokens.now) }
 {
     matches!(
@@ -30,7 +30,10 @@ fn next_is_operation_type(tokens: &Source<'_>) -> bool
 
 /// RootOperationTypeDefinition: `OperationType ":" NamedType`.
 #[tactic(auto, unfolding(read_grammar::specs::TypeSystemReading::root_operation_type_definition))]
-fn root_operation(tokens: &mut Source<'_>, file: FileId) -> Result<(OperationType, NamedType), Stop>
+fn root_operation(
+    tokens: &mut TokenCursor<'_>,
+    file: FileId,
+) -> Result<(OperationType, NamedType), ParseError>
     ensures { Reads root_tree (reading.root_operation_type_definition (in_file file) tokens.old) result tokens.new }
 {
     let operation_type = operation_type(tokens)?;
@@ -42,9 +45,9 @@ fn root_operation(tokens: &mut Source<'_>, file: FileId) -> Result<(OperationTyp
 /// A root operation type with its place.
 fn placed_root(
     alloc: Global,
-    tokens: &mut Source<'_>,
+    tokens: &mut TokenCursor<'_>,
     file: FileId,
-) -> Result<Node<(OperationType, NamedType)>, Stop>
+) -> Result<Node<(OperationType, NamedType)>, ParseError>
     ensures { Reads (node_tree root_tree) (read.placed (in_file file) (reading.root_operation_type_definition (in_file file)) tokens.old) result tokens.new }
 {
     let begin = begin(tokens);
@@ -56,13 +59,13 @@ fn placed_root(
 /// One or more root operation types.
 fn some_roots(
     alloc: Global,
-    tokens: &mut Source<'_>,
+    tokens: &mut TokenCursor<'_>,
     file: FileId,
-) -> Result<Vec<Node<(OperationType, NamedType)>>, Stop>
+) -> Result<Vec<Node<(OperationType, NamedType)>>, ParseError>
     ensures { Reads (λ v. map (node_tree root_tree) v.items) (steps.some_roots (in_file file) tokens.old) result tokens.new }
 {
     if !next_is_operation_type(tokens) {
-        return Err(Stop::Unexpected);
+        return Err(ParseError::Unexpected);
     }
     let mut found = Vec::new(alloc);
     'turns: while next_is_operation_type(tokens) {
@@ -74,10 +77,10 @@ fn some_roots(
 /// The root operation types of a schema: `"{" RootOperationTypeDefinition+ "}"`.
 pub fn roots(
     alloc: Global,
-    tokens: &mut Source<'_>,
+    tokens: &mut TokenCursor<'_>,
     file: FileId,
     depth: usize,
-) -> Result<Vec<Node<(OperationType, NamedType)>>, Stop>
+) -> Result<Vec<Node<(OperationType, NamedType)>>, ParseError>
     ensures { Reads (λ v. map (node_tree root_tree) v.items) (reading.roots (in_file file) depth tokens.old) result tokens.new }
 {
     open(tokens, Terminal::OpenBrace, depth)?;
@@ -89,10 +92,10 @@ pub fn roots(
 /// The root operation types of a schema, or nothing.
 pub fn optional_roots(
     alloc: Global,
-    tokens: &mut Source<'_>,
+    tokens: &mut TokenCursor<'_>,
     file: FileId,
     depth: usize,
-) -> Result<Option<Vec<Node<(OperationType, NamedType)>>>, Stop>
+) -> Result<Option<Vec<Node<(OperationType, NamedType)>>>, ParseError>
     ensures { Reads (option_map (λ v. map (node_tree root_tree) v.items)) (read.try kinds.is_open_brace (reading.roots (in_file file) depth) tokens.old) result tokens.new }
 {
     if !next_is(tokens, Terminal::OpenBrace) {
@@ -101,7 +104,7 @@ pub fn optional_roots(
     Ok(Some(roots(alloc, tokens, file, depth)?))
 }
 
-/// The root operation types, of which there are none where they are left out.
+/// The root operation types; none if they are left out.
 pub fn roots_or_none(
     alloc: Global,
     found: Option<Vec<Node<(OperationType, NamedType)>>>,

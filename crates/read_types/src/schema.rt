@@ -8,8 +8,8 @@ ghost use Rattle.read_types.specs.in_read_operations.Meanings.{in_file};
 use crate::kind::Kind;
 use crate::{optional_roots, roots, roots_or_none};
 use graphql_names::FileId;
-use read_operations::{Stop, directives_or_none, expect, optional_directives};
-use read_tokens::{Source, Terminal};
+use read_operations::{ParseError, directives_or_none, expect, optional_directives};
+use read_tokens::{Terminal, TokenCursor};
 use std::alloc::Global;
 use tree_input_types::SchemaExtension;
 
@@ -17,10 +17,10 @@ use tree_input_types::SchemaExtension;
 #[tactic(auto, unfolding(read_grammar::specs::TypeSystemReading::schema_definition))]
 pub fn schema_definition(
     alloc: Global,
-    tokens: &mut Source<'_>,
+    tokens: &mut TokenCursor<'_>,
     file: FileId,
     depth: usize,
-) -> Result<Kind, Stop>
+) -> Result<Kind, ParseError>
     ensures { Reads kind_tree (steps.schema_kind (in_file file) depth tokens.old) result tokens.new }
 {
     expect(tokens, Terminal::Schema)?;
@@ -36,10 +36,10 @@ pub fn schema_definition(
 #[tactic(auto, unfolding(read_grammar::specs::TypeSystemReading::schema_extension))]
 pub fn schema_extension(
     alloc: Global,
-    tokens: &mut Source<'_>,
+    tokens: &mut TokenCursor<'_>,
     file: FileId,
     depth: usize,
-) -> Result<Kind, Stop>
+) -> Result<Kind, ParseError>
     ensures { Reads kind_tree (steps.schema_extension_kind (in_file file) depth tokens.old) result tokens.new }
 {
     expect(tokens, Terminal::Schema)?;

@@ -9,17 +9,17 @@ use crate::composite_types::{interface_type, object_type, union_type};
 use crate::input_types::{enum_type, input_object_type, scalar_type};
 use crate::kind::Kind;
 use graphql_names::FileId;
-use read_operations::{Stop, next_is};
-use read_tokens::{Source, Terminal};
+use read_operations::{ParseError, next_is};
+use read_tokens::{Terminal, TokenCursor};
 use std::alloc::Global;
 
 /// TypeDefinition (section 3.4): a scalar, an object, an interface, a union, an enum or an input object, by its keyword.
 pub fn type_definition(
     alloc: Global,
-    tokens: &mut Source<'_>,
+    tokens: &mut TokenCursor<'_>,
     file: FileId,
     depth: usize,
-) -> Result<Kind, Stop>
+) -> Result<Kind, ParseError>
     ensures { Reads kind_tree (reading.type_definition (in_file file) depth tokens.old) result tokens.new }
 {
     if next_is(tokens, Terminal::Scalar) {
@@ -40,5 +40,5 @@ pub fn type_definition(
     if next_is(tokens, Terminal::Input) {
         return input_object_type(alloc, tokens, file, depth);
     }
-    Err(Stop::Unexpected)
+    Err(ParseError::Unexpected)
 }

@@ -1,4 +1,4 @@
--- The places that belong to a fault beside its own.
+-- The places that belong to a fault, apart from its own.
 use Rattle.std.specs.Prelude.{◌≡◌, Bool, true, false, not, ◌&&◌, ◌==◌, List, [], ◌∷◌, Option, None, Some, string_bytes, filter, option_map, ⊤}
 use Rattle.graphql_names.specs.declared.span.SourceSpan.{SourceSpan}
 use Rattle.report_forms.specs.declared.entry.Place.{Place}
@@ -19,13 +19,13 @@ is_other (Some own) (Some span) = not (same_span span own)
 abbrev pub others : Option SourceSpan → List Noted → List Noted
 others own noted = filter (λ (n : Noted). is_other own n.place) noted
 
--- the place in its text, where it begins, and what stands there
+-- the name of its text, the position where it begins, and the words of the place
 pub record IsRelated (sources : List Source) (noted : Noted) (related : Related) : Type 0 where
   pub path : string_bytes related.path ≡ path_at sources [] noted.place
   pub words : string_bytes related.words ≡ noted.words.now
   pub start : (place : Option Place) × IsPlaceAt sources noted.place place × (related.start ≡ option_map (λ (p : Place). p.start) place)
 
--- each of them, in order
+-- each of the places is told, in order
 abbrev pub AreRelated : List Source → List Noted → List Related → Type 0
 AreRelated sources [] [] = ⊤
 AreRelated sources [] (r ∷ rs) = ⊥

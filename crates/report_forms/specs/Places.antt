@@ -10,12 +10,12 @@ use Rattle.report_forms.specs.declared.source.Source.{Source}
 abbrev pub source_at : List Source → SourceSpan → Option Source
 source_at sources span = if span.file_id.0 == 0 then None else slice_get sources (span.file_id.0 - 1)
 
--- its name
+-- the name of a text
 abbrev pub path_of : Option Source → List ℕ
 path_of None = codes "<built in>"
 path_of (Some source) = source.path.now
 
--- the name of the text that a place is in; another one where there is no place
+-- the name of the text that a place is in; `name` if there is no place
 abbrev pub path_at : List Source → List ℕ → Option SourceSpan → List ℕ
 path_at sources name None = name
 path_at sources name (Some span) = path_of (source_at sources span)
@@ -33,7 +33,7 @@ IsPlaceInSource None span (Some place) = ⊥
 IsPlaceInSource (Some source) span None = ⊥
 IsPlaceInSource (Some source) span (Some place) = IsPlaceIn source.lines.now span place
 
--- the place in the text that it is in, and none where it is in no text
+-- the place in the text that it is in, in lines and columns; none if it is in no text
 abbrev pub IsPlaceAt : List Source → Option SourceSpan → Option Place → Type 0
 IsPlaceAt sources None place = place ≡ None
 IsPlaceAt sources (Some span) place = IsPlaceInSource (source_at sources span) span place

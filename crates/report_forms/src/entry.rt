@@ -2,22 +2,22 @@
 
 use crate::position::Position;
 
-/// Where in a text a fault stands.
+/// Where in a text a fault is.
 #[derive(Clone, Copy)]
 pub struct Place {
     /// Where it begins.
     pub start: Position,
     /// Where it ends: the place after its last character.
     pub end: Position,
-    /// How many bytes of the text stand before it.
+    /// How many bytes of the text are before it.
     pub offset: usize,
     /// How many bytes long it is.
     pub length: usize,
 }
 
-/// The line in which a fault begins, or a part of it where it is long: `…` is where it is cut.
+/// The line in which a fault begins, or a part of it if it is long: `…` is where it is cut.
 pub struct Excerpt {
-    /// What stands before the place.
+    /// What is before the place.
     pub before: String,
     /// What is at the place, as far as it is in this line.
     pub marked: String,
@@ -41,7 +41,7 @@ pub struct Related {
     pub path: String,
     /// Where it begins, if it has a place in that text.
     pub start: Option<Position>,
-    /// What stands there.
+    /// What is there.
     pub words: String,
 }
 

@@ -9,8 +9,8 @@ use std::alloc::{AllocError, Global};
 /// How many characters of a line are taken before a place, in it and after it.
 const MOST: usize = 80;
 
-/// The line in which the place begins, as far as it is near the place, with `…` where it goes on. None where the place is in no text
-/// of these.
+/// The line in which the place begins, as far as it is near the place, with `…` where it goes on. None if the place is in
+/// none of these texts.
 pub fn excerpt_at(
     alloc: Global,
     sources: &[Source<'_>],
@@ -23,7 +23,7 @@ pub fn excerpt_at(
         return Ok(None);
     };
     let text = source.lines.text();
-    // all before, where it can't be cut there
+    // the whole text counts as before the place, if it can't be cut there
     let (head, rest) = text.split_at_checked(span.offset).unwrap_or((text, ""));
     let (inside, behind) = rest.split_at_checked(span.length).unwrap_or((rest, ""));
     let marked = first_of_line(inside);
@@ -57,7 +57,7 @@ fn cut_mark(beside: Option<char>) -> &'static str {
 
 /// The characters at the beginning, up to the end of a line and not too many.
 fn first_of_line(text: &str) -> &str {
-    // cut first, so that no more is looked at
+    // cut first, so that no more is read
     let near = match text.char_indices().nth(MOST) {
         None => text,
         Some((end, _)) => text.get(..end).unwrap_or(""),

@@ -1,34 +1,54 @@
 //! A fault as a workflow command.
 
 ghost use Rattle.std.specs.Prelude.{◌≡◌, ◌++◌, ◌∷◌, [], OnOk, IfOk, string_bytes};
+ghost use Rattle.std.specs.List.{flat_map};
 ghost use Rattle.report_forms.specs.Shown.{shown_text, HasOnlyLineFeeds};
-ghost use Rattle.report_forms.specs.Forms.{command, properties};
+ghost use Rattle.report_forms.specs.Forms.{command, properties, related_line};
 
-use crate::entry::{Entry, Place};
+use crate::entry::{Entry, Place, Related};
 use crate::escapes::push_escaped;
 use crate::push_line::shown_line;
+use crate::short_form::located;
 use std::alloc::{AllocError, Global};
 
 impl Entry {
-    /// The fault as a workflow command, `::error file=..,line=..,endLine=..,col=..,endColumn=..,title=RULE::MESSAGE`.
+    /// The fault as a workflow command, `::error file=..,line=..,endLine=..,col=..,endColumn=..,title=RULE::MESSAGE`. Lines of the
+    /// message are other places that belong to it, and a hint if there is one.
     pub fn github(&self, alloc: Global) -> Result<String, AllocError>
         ensures value { IfOk result (λ text. string_bytes text ≡ shown_text (command self.now) ++ 10 ∷ []) }
         ensures clean { IfOk result (λ text. HasOnlyLineFeeds (string_bytes text)) }
     {
         let mut command = String::new(alloc);
-        self.push_command(&mut command)?;
+        self.push_command(alloc, &mut command)?;
         shown_line(alloc, &command)
     }
 
-    /// Adds the command, as its parts are.
-    fn push_command(&self, out: &mut String) -> Result<(), AllocError>
+    /// Adds the command, from its parts.
+    fn push_command(&self, alloc: Global, out: &mut String) -> Result<(), AllocError>
         ensures { OnOk result (string_bytes out.new ≡ string_bytes out.old ++ command self.now) }
     {
         push_escaped(out, "::error file=", &self.path, true)?;
         push_place(out, self.place)?;
         push_escaped(out, ",title=", self.rule, true)?;
-        push_escaped(out, "::", &self.message, false)
+        push_escaped(out, "::", &self.message, false)?;
+        push_related(alloc, out, &self.related)?;
+        match &self.hint {
+            None => Ok(()),
+            Some(hint) => push_escaped(out, "%0A= help: ", hint, false),
+        }
     }
+}
+
+/// Adds a line for each place that belongs to the fault.
+fn push_related(alloc: Global, out: &mut String, related: &[Related]) -> Result<(), AllocError>
+    ensures { OnOk result (string_bytes out.new ≡ string_bytes out.old ++ flat_map related_line related.now) }
+{
+    for other in related {
+        let place = located(alloc, &other.path, other.start)?;
+        push_escaped(out, "%0A= ", &place, false)?;
+        push_escaped(out, ": ", &other.words, false)?;
+    }
+    Ok(())
 }
 
 /// Adds the properties of the place.

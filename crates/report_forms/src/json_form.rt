@@ -10,8 +10,8 @@ use serde_json::Value;
 use std::alloc::{AllocError, Global};
 
 impl Entry {
-    /// The fault as a JSON object in a line: `path`; `line`, `column`, `end`, `offset` and `length`, which are null where it has no
-    /// place; `rule`, `message`, `related`, `hint`, and `fields`, the data of the fault.
+    /// The fault as a JSON object in a line: `path`; `line`, `column`, `end`, `offset` and `length`, which are null if it
+    /// has no place; `rule`, `message`, `related`, `hint`, and `fields`, the data of the fault.
     pub fn json(&self, alloc: Global) -> Result<String, AllocError>
         ensures { IfOk result (λ text. IsOneLine (string_bytes text)) }
     {

@@ -83,7 +83,7 @@ impl<'a> Lines<'a> {
         }
     }
 
-    /// The first place with this position: how many bytes of the text stand before it. None where no place has it.
+    /// The first place with this position: how many bytes of the text are before it. None if no place has it.
     pub fn offset(&self, position: Position) -> Option<usize>
         ensures found { IfSome result (λ place. IsFirstPlace self.now position place) }
         ensures none { IfNone result ((place : ℕ) → ¬ IsPosition self.now place position) }
@@ -92,7 +92,7 @@ impl<'a> Lines<'a> {
         place_in_line(self.text.as_bytes(), start, position.column)
     }
 
-    /// The text of the line of this number, without its line terminator. None where the text has no such line.
+    /// The text of the line of this number, without its line terminator. None if the text has no such line.
     pub fn line(&self, number: usize) -> Option<&'a str>
         ensures found { IsSome result ↔ ((0 < number) × (number ≤ 1 + how_many (ends_line self.now) 0 (length self.now))) }
         ensures text { IfSome result (λ line. IsLineText self.now number line.now) }
@@ -140,7 +140,7 @@ fn place_in_line(text: &[u8], start: usize, column: usize) -> Option<usize>
     }
 }
 
-/// What stands before the first line terminator, or the whole text where there is none.
+/// What is before the first line terminator, or the whole text if there is none.
 pub(crate) fn before_terminator(text: &str) -> &str
     ensures { IsFirstLine text.now result.now }
 {

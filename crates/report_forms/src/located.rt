@@ -10,7 +10,7 @@ use graphql_names::SourceSpan;
 use std::alloc::{AllocError, Global};
 
 impl Entry {
-    /// The entry of a fault at that place, of which nothing else is told yet. `name` is the name of the text where it has no place.
+    /// The entry of a fault at that place, with nothing else told yet. `name` is the name of the text if it has no place.
     pub fn at(
         alloc: Global,
         sources: &[Source<'_>],

@@ -8,14 +8,15 @@ use crate::source::{Source, path_of, place_at};
 use graphql_names::SourceSpan;
 use std::alloc::{AllocError, Global};
 
-/// A place that belongs to a fault, if there is one, and what stands there.
+/// A place that belongs to a fault, if there is one, and what is there.
 #[derive(Clone, Copy)]
 pub struct Noted {
     pub place: Option<SourceSpan>,
     pub words: &'static str,
 }
 
-/// The places that belong to a fault in lines and columns, without its own and without those that are none.
+/// The places that belong to a fault in lines and columns, apart from its own and from those that are
+/// missing.
 #[tactic(auto, using(crate::proofs::RelatedPlaces::one_more, crate::proofs::RelatedPlaces::none_more))]
 pub fn related(
     alloc: Global,

@@ -6,7 +6,7 @@ ghost use Rattle.report_forms.specs.Order.{rank_of, IsOrder};
 use graphql_names::SourceSpan;
 use std::alloc::{AllocError, Global};
 
-/// Where a fault stands among others: without a place first, then by text and by offset, and then as told.
+/// The rank of a fault among others: without a place first, then by text and by offset, and then as told.
 #[derive(Clone, Copy, PartialEq, Eq, PartialOrd, Ord)]
 pub struct Rank {
     /// The number of its text and its offset, if it has a place.

@@ -1,4 +1,4 @@
-//! A fault in a line.
+//! A fault in one line.
 
 ghost use Rattle.std.specs.Prelude.{◌≡◌, ◌++◌, ◌∷◌, [], IfOk, string_bytes};
 ghost use Rattle.report_forms.specs.Shown.{shown_text, HasOnlyLineFeeds};
@@ -10,7 +10,7 @@ use crate::push_line::shown_line;
 use std::alloc::{AllocError, Global};
 
 impl Entry {
-    /// The fault in a line, `PATH:LINE:COLUMN: error[RULE]: MESSAGE`, without line and column where it has no place.
+    /// The fault in one line, `PATH:LINE:COLUMN: error[RULE]: MESSAGE`, without line and column if it has no place.
     pub fn short(&self, alloc: Global) -> Result<String, AllocError>
         ensures value { IfOk result (λ text. string_bytes text ≡ shown_text (heading self.now) ++ 10 ∷ []) }
         ensures clean { IfOk result (λ text. HasOnlyLineFeeds (string_bytes text)) }
@@ -19,7 +19,7 @@ impl Entry {
         shown_line(alloc, &heading)
     }
 
-    /// The line, as its parts are.
+    /// The line, from its parts.
     fn heading(&self, alloc: Global) -> Result<String, AllocError>
         ensures { IfOk result (λ text. string_bytes text ≡ heading self.now) }
     {

@@ -18,7 +18,7 @@ pub struct Source<'a> {
     pub lines: &'a Lines<'a>,
 }
 
-/// The text that the place is in: text `n` is the `n`-th of these. None where the place is in a built-in definition.
+/// The text that the place is in: text `n` is the `n`-th of these. None if the place is in a built-in definition.
 pub fn source_at<'a>(sources: &[Source<'a>], span: SourceSpan) -> Option<Source<'a>>
     ensures { result ≡ source_at sources.now span }
 {
@@ -29,7 +29,7 @@ pub fn source_at<'a>(sources: &[Source<'a>], span: SourceSpan) -> Option<Source<
     sources.get(index).copied()
 }
 
-/// The name of the text that the place is in; `name` where there is no place.
+/// The name of the text that the place is in; `name` if there is no place.
 pub fn path_at<'a>(sources: &[Source<'a>], name: &'a str, place: Option<SourceSpan>) -> &'a str
     ensures { result.now ≡ path_at sources.now name.now place }
 {
@@ -49,7 +49,7 @@ pub(crate) fn path_of<'a>(sources: &[Source<'a>], span: SourceSpan) -> &'a str
     }
 }
 
-/// The place in its text, in lines and columns. None where it is in no text of these.
+/// The place in its text, in lines and columns. None if it is in none of these texts.
 pub fn place_at(sources: &[Source<'_>], place: Option<SourceSpan>) -> Option<Place>
     ensures { IsPlaceAt sources.now place result }
 {

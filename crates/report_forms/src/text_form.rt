@@ -12,8 +12,8 @@ use std::alloc::{AllocError, Global};
 use unicode_width::UnicodeWidthStr;
 
 impl Entry {
-    /// The fault in lines: the short form, the line of the text with the place marked under it, the other places that belong to
-    /// it, and a hint where there is one.
+    /// The fault in lines: the short form, the line of the text with the place marked under it, the other places that belong
+    /// to it, and a hint if there is one.
     pub fn text(&self, alloc: Global) -> Result<String, AllocError>
         ensures { IfOk result (λ text. HasOnlyLineFeeds (string_bytes text)) }
     {
@@ -33,7 +33,7 @@ impl Entry {
     }
 }
 
-/// Adds the line with its number, and under it a mark for each column of the place, one at the least.
+/// Adds the line with its number, and under it a mark for each column of the place, at least one.
 fn push_excerpt(
     alloc: Global,
     out: &mut String,
@@ -55,7 +55,7 @@ fn push_excerpt(
     push_line(alloc, out, &marks)
 }
 
-/// The marks under the place, after a margin so wide.
+/// The marks under the place, after a margin of this width.
 fn marks(alloc: Global, margin: usize, excerpt: &Excerpt) -> Result<String, AllocError>
     ensures { IfOk result (λ text. string_bytes text ≡ marks margin excerpt.now) }
 {

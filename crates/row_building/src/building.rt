@@ -1,4 +1,4 @@
-//! Schemas of a row's texts, by a builder with the row's settings.
+//! Schemas of a row's texts, made by a builder with the row's settings.
 
 use crate::given::document_of;
 use graphql_names::{FileId, SourceSpan};
@@ -22,7 +22,7 @@ impl Drop for Built {
     }
 }
 
-/// What the row's schema texts build. Where the builder refuses that, the status tells why. Of `orphans` the answer has
+/// What the row's schema texts build. If the builder refuses them, the status tells why. For `orphans` the answer has
 /// the names that have an extension and no definition.
 pub fn build(alloc: Global, case: Case<'_>, answer: &mut Answer) -> Result<Option<Built>, Problem> {
     let mut builder = builder_of(alloc, case)?;
@@ -45,7 +45,7 @@ fn builder_of(alloc: Global, case: Case<'_>) -> Result<SchemaBuilder, Problem> {
     Ok(ignoring(adopting(builder, adopts), ignores))
 }
 
-/// The numbers of extensions, from the one that the row says on.
+/// The numbers of extensions, from the first one that the row gives.
 fn extensions_of(case: Case<'_>) -> Result<Extensions, Problem> {
     let first = number(case.row, "first", "1")?;
     if first == 0 {
@@ -54,7 +54,7 @@ fn extensions_of(case: Case<'_>) -> Result<Extensions, Problem> {
     Ok(Extensions::starting_at(first as u64))
 }
 
-/// The builder, which adopts orphan extensions where that is so.
+/// The builder, which adopts orphan extensions if the row says so.
 fn adopting(builder: SchemaBuilder, is_so: bool) -> SchemaBuilder {
     if is_so {
         builder.adopt_orphan_extensions()
@@ -63,7 +63,7 @@ fn adopting(builder: SchemaBuilder, is_so: bool) -> SchemaBuilder {
     }
 }
 
-/// The builder, which ignores built-in redefinitions where that is so.
+/// The builder, which ignores built-in redefinitions if the row says so.
 fn ignoring(builder: SchemaBuilder, is_so: bool) -> SchemaBuilder {
     if is_so {
         builder.ignore_builtin_redefinitions()
@@ -91,14 +91,14 @@ fn add_texts(
     Ok(())
 }
 
-/// Adds a document of schema text. Where the builder refuses it, the status tells why.
+/// Adds a document of schema text. If the builder refuses it, the status tells why.
 fn add_document(document: &Document, builder: &mut SchemaBuilder, status: &mut Lines) {
     if let Err(refusal) = builder.add_ast(document) {
         push_refusal(refusal, status);
     }
 }
 
-/// Tells why a builder refuses, where it is the first time.
+/// Tells why a builder refuses, if it is the first refusal.
 fn push_refusal(refusal: BuilderRefusal, status: &mut Lines) {
     if status.as_str().is_empty() {
         status.put(match refusal {

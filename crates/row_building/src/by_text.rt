@@ -26,8 +26,8 @@ fn push_shown(alloc: Global, text: &str, answer: &mut Answer) -> Result<(), Allo
     Ok(())
 }
 
-/// Adds the position of each place of the text, with a space between each two, and back: the place of each position, of which the
-/// first is told.
+/// Adds the position of each place of the text, with a space between each two; if another place is the first with the
+/// position, also that place.
 fn push_positions(alloc: Global, text: &str, answer: &mut Answer) -> Result<(), AllocError> {
     let lines = Lines::new(alloc, text)?;
     let mut separator = "";

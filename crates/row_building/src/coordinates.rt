@@ -10,7 +10,7 @@ use row_files::{Answer, Case, Field, Problem, text_of};
 use std::alloc::Global;
 use std::fmt::Display;
 
-/// Adds what the input is, read in the row's form where it has one, and else what it names in the schema.
+/// Adds what the input is, read in the row's form if it has one, and else what it names in the schema.
 pub(crate) fn push_coordinate(
     alloc: Global,
     case: Case<'_>,

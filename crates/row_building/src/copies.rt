@@ -21,7 +21,7 @@ pub(crate) fn is_copied<T: Clone + PartialEq>(value: &T) -> bool {
     }
 }
 
-/// Whether the copy of what is in each node equals that.
+/// Whether the copy of what is in each node equals what is in it.
 fn are_copied<T: Clone + PartialEq>(nodes: &[Node<T>]) -> bool {
     for node in nodes {
         if !is_copied(node.content()) {
@@ -41,7 +41,7 @@ pub(crate) fn document_is_copied(document: &Document) -> bool {
     is_copied(document)
 }
 
-/// Whether the copy of what is in the definition equals that, and so those of its parts.
+/// Whether the copy of what is in the definition equals it, and so do the copies of its parts.
 fn content_is_copied(definition: &Definition) -> bool {
     match definition {
         Definition::OperationDefinition(node) => operation_is_copied(node.content()),

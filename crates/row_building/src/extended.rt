@@ -1,4 +1,4 @@
-//! Schemas by the calls that may want memory and that nothing but these rows reaches.
+//! Schemas by the calls that may run out of memory and that only these rows reach.
 
 use crate::copies::is_copied;
 use graphql_schema::{ExtendedType, ObjectType, Schema, SchemaDefinition};
@@ -24,8 +24,8 @@ pub(crate) fn push_extended(
     push_implementers(alloc, schema, lines)
 }
 
-/// Adds the type's name, unless it is built in, how many extensions gave it a component, by the call of its kind and by that
-/// of types, whether its copy equals it, and of an object of the texts what is told of its components.
+/// Adds the type's name, unless it is built in; how many extensions gave it a component, by the call of its kind and by that
+/// of types; whether its copy equals it; and, of an object of the texts, what is told of its components.
 fn push_type(alloc: Global, ty: &ExtendedType, lines: &mut Lines) -> Result<(), AllocError> {
     if !ty.is_built_in() {
         lines.show_between("", ty.name(), " ");
@@ -80,7 +80,7 @@ fn push_components(object: &ObjectType, lines: &mut Lines) -> Result<(), AllocEr
     Ok(())
 }
 
-/// Adds of each extension that gave a component to the schema definition whether it has a place, and a node gets that.
+/// Adds a line for each extension that gave a component to the schema definition, if it has a place and a node gets that.
 fn push_roots(
     alloc: Global,
     roots: &SchemaDefinition,
@@ -96,7 +96,8 @@ fn push_roots(
     Ok(())
 }
 
-/// Adds of each interface how many objects and how many interfaces implement it, if any does, and how many are implemented.
+/// Adds, for each interface that is implemented, how many objects and how many interfaces implement it, and then the number
+/// of these interfaces.
 fn push_implementers(alloc: Global, schema: &Schema, lines: &mut Lines) -> Result<(), AllocError> {
     let map = schema.implementers_map(alloc)?;
     for ty in schema.types.values() {

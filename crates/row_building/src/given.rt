@@ -32,7 +32,7 @@ pub fn document_of(
     }
 }
 
-/// The schema, or none where the row says that it stands alone.
+/// The schema, or none if the row says that it stands alone.
 pub fn schema_under<'a>(case: Case<'_>, schema: &'a Schema) -> Result<Option<&'a Schema>, Problem> {
     if says(case.row, "standalone", "yes")? {
         Ok(None)

@@ -21,7 +21,7 @@ pub(crate) fn by_layouts(alloc: Global, case: Case<'_>, tally: &mut Tally) -> Re
     Ok(())
 }
 
-/// Judges the input under a layout. On one line it is to print the row's `flat`, or itself where there is none; under two
+/// Judges the input under a layout. On one line it is to print the row's `flat`, or itself if there is none; under two
 /// spaces what the row wants.
 fn by_layout(
     alloc: Global,
@@ -46,7 +46,7 @@ fn by_layout(
     compare(wanted, Way::whole(layout, input, usize::MAX), tally)
 }
 
-/// Adds what is printed of the text under the layout, and whether that reads as it was and is printed alike.
+/// Adds what is printed of the text under the layout, and whether that reads as the same document and is printed alike.
 fn push_answer(alloc: Global, text: &str, layout: &str, answer: &mut Answer) {
     let form = form_named(layout).unwrap_or(Form::Unsaid);
     match parse_document(alloc, text, FileId(1), usize::MAX) {
@@ -55,7 +55,8 @@ fn push_answer(alloc: Global, text: &str, layout: &str, answer: &mut Answer) {
     }
 }
 
-/// Adds what is printed of the document, and whether it is copied, and what is printed reads as it and is printed alike.
+/// Adds what is printed of the document, and whether it is copied, and whether the printed text reads as the document and
+/// is printed alike.
 fn push_printed(alloc: Global, document: &Document, form: Form, answer: &mut Answer) {
     answer.text.show(&laid_out(document, form, 0));
     let status = if document_is_copied(document) {
@@ -66,7 +67,7 @@ fn push_printed(alloc: Global, document: &Document, form: Form, answer: &mut Ans
     answer.status.put(status);
 }
 
-/// Whether what is printed of the document reads as it, apart from places and with its hash, and is printed alike.
+/// Whether the printed text reads as the document, apart from places and with its hash, and is printed alike.
 fn read_again(alloc: Global, document: &Document, form: Form, printed: &str) -> &'static str {
     match parse_document(alloc, printed, FileId(2), usize::MAX) {
         Ok(again) if again == *document && hash_of(&again) == hash_of(document) => {

@@ -40,7 +40,7 @@ pub(crate) fn form_named(word: &str) -> Option<Form> {
     Some(Form::Prefix(prefix))
 }
 
-/// The tree under its layout, from this level on.
+/// The tree under its layout, starting at this level.
 pub(crate) fn laid_out<'a, T: Tree>(tree: &'a T, form: Form, level: usize) -> Serialize<'a, T> {
     let layout = tree.serialize().initial_indent_level(level);
     match form {
@@ -69,7 +69,8 @@ pub(crate) fn judge_tree<T: Tree>(
     compare(case, Way::whole("is_writable", &[], 0), tally)
 }
 
-/// Judges what is printed of the tree under the row's layout: by `Display`, and by `write_to` by each of its plans.
+/// Judges what is printed of the tree under the row's layout: by `Display`, and by `write_to` with each of its
+/// plans.
 fn prints<T: Tree>(
     alloc: Global,
     case: Case<'_>,
@@ -87,7 +88,7 @@ fn prints<T: Tree>(
     Ok(())
 }
 
-/// Judges the text by `write_to`, by this plan.
+/// Judges the text by `write_to`, with this plan.
 fn writes<T: Tree>(
     alloc: Global,
     case: Case<'_>,
@@ -103,7 +104,7 @@ fn writes<T: Tree>(
     compare_cut(alloc, case, way, tally)
 }
 
-/// Writes the text by the plan, and adds the status of that.
+/// Writes the text with the plan, and adds the status of that.
 fn write_by<T: Tree>(shown: Serialize<'_, T>, plan: Plan, answer: &mut Answer) {
     let mut writer = device(&mut answer.written, plan, plan.write);
     let written = shown.write_to(&mut writer);

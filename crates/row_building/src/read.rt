@@ -22,7 +22,7 @@ pub(crate) fn by_read(alloc: Global, case: Case<'_>, tally: &mut Tally) -> Resul
     Ok(())
 }
 
-/// Judges the answer to an input, which must be UTF-8. The output that is wanted may be the input as it stands.
+/// Judges the answer to an input, which must be UTF-8. The output that is wanted may be the input unchanged.
 fn by_input(
     alloc: Global,
     case: Case<'_>,
@@ -103,7 +103,7 @@ fn push_response_names(selections: &[Selection], answer: &mut Answer) {
     answer.status.put("0");
 }
 
-/// Adds what each directive of the document's operations has for `a`, on a line of its own, where the document's first
+/// Adds what each directive of the document's operations has for `a`, on a line of its own; the document's first
 /// definition may be that of a directive.
 fn push_arguments(document: &Document, answer: &mut Answer) {
     let definition = match document.definitions.first() {
@@ -156,8 +156,8 @@ fn kind_words(kind: SyntaxFaultKind) -> &'static str {
     }
 }
 
-/// Adds the offset, the kind and the text of each token on a line of its own, up to the end or to where none starts, and
-/// the place of that.
+/// Adds the offset, the kind and the text of each token on a line of its own, up to the end or to where no token starts,
+/// and the place of that.
 fn push_tokens(text: &str, answer: &mut Answer) {
     let mut at = 0;
     for _ in 0..=text.len() {

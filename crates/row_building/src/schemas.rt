@@ -7,8 +7,8 @@ use row_files::{Answer, push_faults};
 use std::alloc::{AllocError, Global};
 use tree_literals::Tree;
 
-/// Adds what is built: the written schema, or its faults; or what `extended` tells of it. Of `orphans` the answer has all but
-/// the status.
+/// Adds what is built: the written schema, or its faults; or what `extended` tells of it. For `orphans` the answer has all
+/// but the status.
 pub(crate) fn push_built(
     alloc: Global,
     call: &str,

@@ -54,7 +54,7 @@ fn by_macro(alloc: Global, case: Case<'_>, tally: &mut Tally) -> Result<(), Prob
     judge_tree(alloc, case, &tree, tree.is_writable(), tally)
 }
 
-/// Judges what the row asks of its one input, which is read as a type or as a document.
+/// Judges what the row asks of its only input, which is read as a type or as a document.
 fn by_text(
     alloc: Global,
     case: Case<'_>,

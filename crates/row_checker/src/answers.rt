@@ -28,7 +28,7 @@ pub(crate) fn schema_of(
     checker.finish()
 }
 
-/// Adds the answers to the further documents, while what the first gives is kept, and last what that tells.
+/// Adds the answers to the further documents, while what the first gives is kept, and then what that tells.
 pub(crate) fn push_around(schema: &CheckedSchema, texts: Texts<'_>, told: &mut Told) {
     match schema.check(texts.document) {
         Ok(checked) => {

@@ -6,7 +6,7 @@ use crate::problem::Problem;
 use graphql_names::SourceSpan;
 use std::fmt::Display;
 
-/// Judges what the row's call answers, to an input where it has one.
+/// Judges what the row's call answers, for an input if it has one.
 pub fn judge(case: Case<'_>, input: &[u8], tally: &mut Tally) -> Result<(), Problem> {
     compare(case, Way::whole(case.call, input, 500), tally)
 }

@@ -7,14 +7,15 @@ use std::alloc::Global;
 
 /// The calls that a program has rows for.
 pub trait Calls {
-    /// The fields that rows of the call may have beside those of every row. None where there is no such call.
+    /// The fields that rows of the call may have apart from those of every row. None if there is no such
+    /// call.
     fn names_of(&self, call: &str) -> Option<&'static [&'static str]>;
 
     /// Judges the row by its call, one of these.
     fn judge(&self, alloc: Global, case: Case<'_>, tally: &mut Tally) -> Result<(), Problem>;
 }
 
-/// The call that the row is for, where it has no field but those of the call.
+/// The call that the row is for, if it has no fields but those of the call.
 pub(crate) fn call_of<'a, C: Calls>(calls: &C, row: Row<'a>) -> Result<&'a str, Problem> {
     let call = row.needed("call")?;
     let Some(names) = calls.names_of(call.value) else {

@@ -47,7 +47,7 @@ impl Answer {
         self.status.as_str() == case.status && self.out() == case.out
     }
 
-    /// Makes it empty. It is no answer where memory was refused.
+    /// Makes it empty. It is no answer if memory was refused.
     fn clear(&mut self) -> Result<(), Problem> {
         self.status.clear();
         self.text.clear();
@@ -70,7 +70,7 @@ pub struct Case<'a> {
     pub out: &'a [u8],
 }
 
-/// In which way a call was made, for who reads of a difference.
+/// In which way a call was made, for the reader of a difference.
 #[derive(Clone, Copy)]
 pub struct Way<'a> {
     pub call: &'a str,
@@ -100,11 +100,11 @@ pub struct Tally {
     pub differences: u64,
     /// What the call answers, until it is compared.
     pub answer: Answer,
-    /// The differences, of a row the first one, and what is wrong with files, in lines.
+    /// The differences, the first one of each row, and what is wrong with files, in lines.
     pub told: Lines,
     /// Whether a difference of this row is told.
     pub is_row_told: bool,
-    /// Whether rows were not judged, since a file is not as it must be.
+    /// Whether rows were not judged because a file is not as it must be.
     pub is_stopped: bool,
 }
 
@@ -143,8 +143,7 @@ impl Tally {
     }
 }
 
-/// Counts the answer, which is then gone, and tells it where it is not as the row wants it: of a row the first such
-/// answer.
+/// Counts the answer, empties it, and tells it if it is not as the row wants it: only the first such answer of a row.
 pub fn compare(case: Case<'_>, way: Way<'_>, tally: &mut Tally) -> Result<(), Problem> {
     tally.answers = tally.answers.saturating_add(1);
     if !tally.answer.is_wanted(case) {
@@ -174,7 +173,7 @@ pub(crate) fn tell_place(file: &str, line: usize, what: &str, told: &mut Lines) 
 }
 
 /// Tells in which way it was run, and where devices end: how many bytes a call, the number of the text that ends, after
-/// how many bytes it does, and after how many the output.
+/// how many bytes it does, and after how many the output does.
 fn tell_way(way: Way<'_>, told: &mut Lines) {
     let plan = way.plan;
     told.show_between("  ", &way.call, " of ");

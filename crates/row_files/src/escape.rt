@@ -3,16 +3,16 @@
 use crate::problem::Problem;
 use crate::row_file::Field;
 
-/// How far an escape is read.
+/// How far an escape has been read.
 #[derive(Clone, Copy)]
 enum Escape {
-    /// There is none.
+    /// No escape has begun.
     Outside,
     /// Its backslash.
     Begun,
     /// `\x`.
     Hexadecimal,
-    /// `\x` and a digit, which counts so much.
+    /// `\x` and a digit, with its value.
     Digit(u8),
 }
 
@@ -35,7 +35,7 @@ pub(crate) fn push_bytes(field: Field<'_>, bytes: &mut Vec<u8>) -> Result<(), Pr
     }
 }
 
-/// Takes a byte: how far an escape is read after it, and the byte that is complete with it.
+/// Takes a byte: how far an escape has been read after it, and the byte that is complete with it.
 fn step(escape: Escape, byte: u8) -> Option<(Escape, Option<u8>)> {
     match (escape, byte) {
         (Escape::Outside, b'\\') => Some((Escape::Begun, None)),

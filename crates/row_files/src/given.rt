@@ -13,7 +13,7 @@ pub struct Given {
     pub schemas: Vec<Vec<u8>>,
     pub documents: Vec<Vec<u8>>,
     pub inputs: Vec<Vec<u8>>,
-    /// What each input is to print on one line, if that is not itself.
+    /// What each input is to print on one line, if not itself.
     pub flat: Vec<Vec<u8>>,
     /// The limits of nesting.
     pub limits: Vec<usize>,
@@ -63,7 +63,7 @@ impl Given {
         push_plans(row, &self.steps, self.out.len(), &mut self.plans)
     }
 
-    /// Adds the row's own fields, and those in common of which it has none itself.
+    /// Adds the row's own fields, and those in common that it does not have itself.
     fn add_fields(&mut self, alloc: Global, row: Row<'_>) -> Result<(), Problem> {
         for field in row.own {
             self.add_field(alloc, *field)?;
@@ -76,7 +76,8 @@ impl Given {
         Ok(())
     }
 
-    /// Adds what the field gives, if that is a text: of the output each `line` with an LF, and each `text` as it is.
+    /// Adds what the field gives, if that is a text: of the output each `line` with an LF, and each `text`
+    /// unchanged.
     fn add_field(&mut self, alloc: Global, field: Field<'_>) -> Result<(), Problem> {
         match field.name {
             "schema" => push_text(alloc, field, &mut self.schemas),

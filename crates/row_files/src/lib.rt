@@ -1,11 +1,11 @@
 //! Row files: what a line, a row and a field are, and the numbers, texts and outputs that fields stand for; and answers,
 //! which are compared with what a row wants.
 //!
-//! A program of rows is a `main` that hands its calls (`Calls`) to `judge_files`. `FORMAT.md`, beside this folder, has the
-//! form of row files.
+//! A program of rows is a `main` that passes its calls (`Calls`) to `judge_files`. `FORMAT.md`, next to this folder, has
+//! the form of row files.
 //!
-//! Begin with `program.rt`, `row_file.rt` and `case.rt`. It knows no tree and no checker: of `graphql_names` it has
-//! places and the devices that end.
+//! Begin with `program.rt`, `row_file.rt` and `case.rt`. This crate knows no tree and no checker: of `graphql_names` it
+//! has places and the devices that end.
 #![tactic(auto)]
 
 mod answers;

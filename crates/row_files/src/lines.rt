@@ -3,7 +3,7 @@
 use std::alloc::{AllocError, Global};
 use std::fmt::{Debug, Display};
 
-/// A text that grows at its end. Where memory is refused, it keeps that, and is no longer whole.
+/// A text that grows at its end. If memory is refused, it keeps that, and is no longer whole.
 pub struct Lines {
     text: String,
     is_refused: bool,
@@ -45,7 +45,7 @@ impl Lines {
         self.keep(grown);
     }
 
-    /// Adds what is shown for who reads of a fault.
+    /// Adds what is shown for the reader of a fault.
     pub fn debug<T: Debug>(&mut self, shown: &T) {
         let grown = write!(self.text, "{shown:?}");
         self.keep(grown);
@@ -56,7 +56,7 @@ impl Lines {
         self.is_refused |= grown.is_err();
     }
 
-    /// What it is so far.
+    /// The text so far.
     pub fn as_str(&self) -> &str {
         self.text.as_str()
     }

@@ -11,13 +11,13 @@ use std::io::ErrorKind;
 pub struct Plan {
     /// The most bytes a call.
     pub step: usize,
-    /// The number of the text whose reader ends after `read` bytes. Each reader after it fails at its first call.
+    /// The number of the text whose reader ends after `read` bytes. Each later reader fails at its first call.
     pub text: usize,
     /// After so many bytes the reader of `text` ends.
     pub read: usize,
     /// After so many bytes the writer ends.
     pub write: usize,
-    /// How the device that ends does it.
+    /// How the device that ends does so.
     pub ending: Ending,
 }
 
@@ -32,7 +32,7 @@ pub fn whole() -> Plan {
     }
 }
 
-/// How devices end. An interruption is a failure as any other.
+/// How devices end. An interruption is a failure like any other.
 pub fn endings() -> [Ending; 3] {
     [
         Ending::Fails(ErrorKind::Interrupted),

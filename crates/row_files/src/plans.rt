@@ -8,8 +8,8 @@ use crate::row_file::Row;
 use crate::settings::{number, says};
 use std::alloc::{AllocError, Global};
 
-/// Adds the plans of the row: at each number of bytes a call and for each ending, the writer ends where the output
-/// does, which is so long, and where the row says `write: each` also after each smaller number of bytes.
+/// Adds the plans of the row: at each number of bytes a call and for each ending, the writer ends where the output,
+/// which has this length, does; and if the row says `write: each`, also after each smaller number of bytes.
 pub(crate) fn push_plans(
     row: Row<'_>,
     steps: &[usize],
@@ -49,7 +49,7 @@ fn push_cuts(
     Ok(())
 }
 
-/// Compares the answer by a plan: where its writer ends before the output does, so many bytes are out.
+/// Compares the answer with a plan: if its writer ends before the output does, so many bytes are written.
 pub fn compare_cut(
     alloc: Global,
     case: Case<'_>,

@@ -9,12 +9,12 @@ pub enum Problem {
     Memory,
     /// A file cannot be read.
     Device,
-    /// A row file is not one: at this line, counted from 1.
+    /// A row file is not of the form, at this line, counted from 1.
     Malformed { line: usize, what: &'static str },
 }
 
 impl Problem {
-    /// What it is, in words.
+    /// The problem, in words.
     pub fn what(self) -> &'static str {
         match self {
             Problem::Memory => "out of memory",

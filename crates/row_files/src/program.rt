@@ -1,5 +1,5 @@
 //! A program of rows: it judges the rows of the files that its words name, tells each answer that is not as its row wants
-//! it, and last counts files, rows, answers and differences.
+//! it, and then counts files, rows, answers and differences.
 
 use crate::calls::{Calls, call_of};
 use crate::case::{Case, Tally, tell_place};
@@ -10,8 +10,8 @@ use std::alloc::Global;
 use std::fs;
 use std::process::ExitCode;
 
-/// Judges the files that the words name by these calls, and prints what there is to tell. The status is 0 where there
-/// are rows and each is as it must be, 1 where that is not so, and 2 where they are not judged.
+/// Judges the files that the words name by these calls, and prints what there is to tell. The status is 0 if there are
+/// rows and each is as it must be, 1 if not, and 2 if they are not judged.
 pub fn judge_files<C: Calls>(rt: &HostRuntime, calls: &C) -> ExitCode {
     let mut tally = Tally::new(rt.alloc());
     judge_words(rt, calls, &mut tally);
@@ -46,7 +46,7 @@ fn judge_words<C: Calls>(rt: &HostRuntime, calls: &C, tally: &mut Tally) {
     }
 }
 
-/// Reads the file and judges its rows. Where it is not as it must be, it tells that.
+/// Reads the file and judges its rows. If it is not as it must be, that is told.
 fn judge_file<C: Calls>(rt: &HostRuntime, calls: &C, file: &str, tally: &mut Tally) {
     let judged = match fs::read_to_string(rt, file) {
         Ok(text) => judge_text(rt.alloc(), calls, file, &text, tally),
@@ -122,7 +122,7 @@ fn judge_row<C: Calls>(
     judge_case(alloc, calls, case, tally)
 }
 
-/// Judges what the row wants, which must be some answer.
+/// Judges what the row wants, which must be at least one answer.
 fn judge_case<C: Calls>(
     alloc: Global,
     calls: &C,
@@ -139,7 +139,7 @@ fn judge_case<C: Calls>(
     Ok(())
 }
 
-/// Tells the counts, where all rows were judged.
+/// Tells the counts, if all rows were judged.
 fn tell_counts(tally: &mut Tally) {
     if !tally.is_stopped {
         tally.told.show_between("", &tally.files, " files, ");

@@ -6,14 +6,14 @@ use std::alloc::Global;
 /// A line of a row file: `name: value`.
 #[derive(Clone, Copy)]
 pub struct Field<'a> {
-    /// Counted from 1.
+    /// The line's number, counted from 1.
     pub line: usize,
     pub name: &'a str,
     pub value: &'a str,
 }
 
 impl Field<'_> {
-    /// The problem that its line is not as it must be.
+    /// The problem that this line is not as it must be.
     pub fn problem(self, what: &'static str) -> Problem {
         Problem::Malformed {
             line: self.line,
@@ -27,7 +27,7 @@ impl Field<'_> {
     }
 }
 
-/// The fields of a row file, in order. Empty lines and those that begin with `#` are passed over.
+/// The fields of a row file, in order. Empty lines and those that begin with `#` are skipped.
 pub fn fields_of<'a>(alloc: Global, text: &'a str) -> Result<Vec<Field<'a>>, Problem> {
     let mut fields = Vec::new(alloc);
     for (index, content) in text.lines().enumerate() {
@@ -66,7 +66,7 @@ fn field_of<'a>(line: usize, content: &'a str) -> Option<Field<'a>> {
     Some(Field { line, name, value })
 }
 
-/// A row: its name, its own fields, and the fields of the `common` that it stands under.
+/// A row: its name, its own fields, and the fields of the `common` that it is under.
 #[derive(Clone, Copy)]
 pub struct Row<'a> {
     pub head: Field<'a>,
@@ -85,7 +85,7 @@ impl<'a> Row<'a> {
         false
     }
 
-    /// The fields among which those of this name stand: the row's own, and where none of these has it those in common.
+    /// The fields that have those of this name: the row's own, or, if it has none of this name, those in common.
     fn part(self, name: &str) -> &'a [Field<'a>] {
         if self.has(name) {
             self.own
@@ -108,7 +108,7 @@ impl<'a> Row<'a> {
         Ok(found)
     }
 
-    /// The one field of this name, or one in the row's line with this value where there is none.
+    /// The one field of this name; if there is none, one in the row's line with this value.
     pub(crate) fn one_or(self, name: &str, other: &'static str) -> Result<Field<'a>, Problem> {
         match self.one(name)? {
             Some(field) => Ok(field),

@@ -14,14 +14,13 @@ fn number_of(field: Field<'_>, text: &str) -> Result<usize, Problem> {
     }
 }
 
-/// The number of the field of this name, or `other` where there is none.
+/// The number in the field of this name, or `other` if there is none.
 pub fn number(row: Row<'_>, name: &str, other: &'static str) -> Result<usize, Problem> {
     let field = row.one_or(name, other)?;
     number_of(field, field.value)
 }
 
-/// Adds the numbers of the field of this name, which stand there with a space between each two, or `other` alone
-/// where there is none.
+/// Adds the numbers in the field of this name, with a space between each two, or only `other` if there is none.
 pub(crate) fn push_numbers(
     row: Row<'_>,
     name: &str,
@@ -35,7 +34,7 @@ pub(crate) fn push_numbers(
     Ok(())
 }
 
-/// Whether the row has the field of this name. It says this word, and nothing else.
+/// Whether the row has the field of this name, whose value must be this word.
 pub fn says(row: Row<'_>, name: &str, word: &str) -> Result<bool, Problem> {
     match row.one(name)? {
         None => Ok(false),

@@ -11,7 +11,7 @@ pub fn text_of<'a>(case: Case<'_>, bytes: &'a [u8]) -> Result<&'a str, Problem> 
     }
 }
 
-/// What is read of a text, which must be read.
+/// What is read from a text, which must be readable.
 pub fn read_of<T: Drop, E: Drop>(case: Case<'_>, read: Result<T, E>) -> Result<T, Problem> {
     match read {
         Ok(tree) => Ok(tree),

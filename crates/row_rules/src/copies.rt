@@ -5,13 +5,14 @@ use graphql_faults::{Details, DiagnosticData, DiagnosticList};
 use row_files::{Answer, Lines, push_faults};
 use std::alloc::{AllocError, Global};
 
-/// Adds a line for each fault, in order. The status tells whether there is one, and first where the copy of one is another.
+/// Adds a line for each fault, in order. The status tells whether there is one, and before that whether the copy of one
+/// differs.
 pub(crate) fn push_in_order(alloc: Global, list: &DiagnosticList, answer: &mut Answer) {
     push_copies(alloc, list, answer);
     push_faults(list.iter().as_slice(), answer);
 }
 
-/// Adds to the status where the copy of what breaks a rule is another.
+/// Adds to the status whether the copy of what breaks a rule differs.
 pub(crate) fn push_copies(alloc: Global, list: &DiagnosticList, answer: &mut Answer) {
     for (_, details) in list.iter() {
         if let Details::Data(data) = details {
@@ -39,8 +40,8 @@ fn tell_the_same(alloc: Global, one: &DiagnosticData, other: &DiagnosticData) ->
     told.as_str() == other_told.as_str()
 }
 
-/// Adds what is told of a number that is too large for Float, and of selections that are nested too deeply, which no text breaks:
-/// of a copy, and of what is copied. They are moved from another list.
+/// Adds what is told of a number that is too large for Float, and of selections that are nested too deeply, which no text of
+/// a row breaks: of a copy, and of the original. They are moved from another list.
 pub(crate) fn push_never(alloc: Global, text: &str, answer: &mut Answer) -> Result<(), AllocError> {
     let mut told = DiagnosticList::new(alloc);
     tell_never(alloc, text, &mut told)?;

@@ -1,5 +1,5 @@
-//! What a row gives beside its schema: types, locations, and the arguments of an operation's first field; and which
-//! argument of the schema rows of usage ask for.
+//! What a row gives apart from its schema: types, locations, and the arguments of an operation's first field; and
+//! which argument of the schema rows of usage ask for.
 
 use graphql_names::{FileId, Node};
 use row_building::{Schema, parse_type};
@@ -9,7 +9,7 @@ use tree_directives::{Argument, DirectiveLocation, InputValueDefinition};
 use tree_literals::Type;
 use tree_operations::{OperationDefinition, Selection};
 
-/// The type that is written so.
+/// The type with this text.
 pub(crate) fn type_of(alloc: Global, case: Case<'_>, text: &str) -> Result<Type, Problem> {
     read_of(case, parse_type(alloc, text, FileId(1), 500))
 }
@@ -71,7 +71,7 @@ pub(crate) fn asked_for<'a>(
     )
 }
 
-/// What the operation's first selection, a field, is given.
+/// The arguments of the operation's first selection, which is a field.
 pub(crate) fn arguments_of<'a>(
     case: Case<'_>,
     operation: &'a OperationDefinition,
@@ -82,7 +82,7 @@ pub(crate) fn arguments_of<'a>(
     }
 }
 
-/// The first argument that the operation's first field is given.
+/// The first argument of the operation's first field.
 pub(crate) fn first_argument<'a>(
     case: Case<'_>,
     operation: &'a OperationDefinition,

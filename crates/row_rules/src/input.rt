@@ -1,6 +1,6 @@
 //! Texts that a row gives to be judged.
 
-/// A text, and so many brackets may be open in it at once.
+/// A text, and how many brackets may be open in it at once.
 #[derive(Clone, Copy)]
 pub(crate) struct Input<'a> {
     pub(crate) text: &'a str,

@@ -26,7 +26,8 @@ pub(crate) fn by_parts<R: Rules>(
     Ok(())
 }
 
-/// Adds what is kept of the set of fields or of the field that the input is or makes, or what the call answers to it.
+/// Adds what is kept of the set of fields that the input is, or of the field that it makes, or what the call answers
+/// to it.
 fn push_part<R: Rules>(
     judged: &Judged<'_, R>,
     schema: &Schema,

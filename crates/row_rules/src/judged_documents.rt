@@ -12,7 +12,8 @@ use graphql_names::FileId;
 use row_building::{Schema, parse_document};
 use row_files::{Answer, Problem, read_of};
 
-/// Adds what has no meaning in the input, a document that must be read, and then what the call tells of what is kept.
+/// Adds what has no meaning in the input, a document that must be readable, and then what the call tells of what is
+/// kept.
 pub(crate) fn push_document<R: Rules>(
     judged: &Judged<'_, R>,
     schema: Option<&Schema>,

@@ -6,7 +6,7 @@ use graphql_faults::DiagnosticList;
 use row_building::Built;
 use row_files::Problem;
 
-/// Judges the schema of a row, which must keep every rule. What it has is then what documents are judged over.
+/// Judges the schema of a row, which must keep every rule. What it then has is what documents are judged over.
 pub(crate) fn judge_schema<R: Rules>(
     judged: &Judged<'_, R>,
     built: &mut Built,

@@ -12,8 +12,8 @@ use row_files::{Answer, Case, Problem, read_of};
 use std::alloc::Global;
 use tree_operations::Selection;
 
-/// Adds what has no meaning in the input, selections that must be read, under the row's type, and then what breaks a rule
-/// in what is kept.
+/// Adds what has no meaning in the input, selections that must be readable, under the row's type, and then what breaks a
+/// rule in what is kept.
 pub(crate) fn push_field_set<R: Rules>(
     judged: &Judged<'_, R>,
     schema: &Schema,

@@ -9,7 +9,7 @@ use row_building::{Schema, document_of, schema_under};
 use row_files::{Answer, Case, Problem, push_faults};
 use std::alloc::{AllocError, Global};
 
-/// Adds what is kept of the row's documents, or which fields the call lends of that, and what has no meaning.
+/// Adds what is kept of the row's documents, or which of its fields the call lends, and what has no meaning.
 pub(crate) fn push_documents(
     alloc: Global,
     case: Case<'_>,
@@ -24,7 +24,7 @@ pub(crate) fn push_documents(
     }
 }
 
-/// Adds the row's documents, numbered after its schema texts, which must be read.
+/// Adds the row's documents, numbered after its schema texts, which must be readable.
 fn add_documents(
     alloc: Global,
     case: Case<'_>,

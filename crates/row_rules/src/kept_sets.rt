@@ -8,7 +8,7 @@ use row_files::{Answer, Case, Problem, push_faults, read_of, text_of};
 use std::alloc::{AllocError, Global};
 use tree_operations::Selection;
 
-/// Adds what is kept of the input, which must be read, under the row's type, and what has no meaning.
+/// Adds what is kept of the input, which must be readable, under the row's type, and what has no meaning.
 pub(crate) fn push_kept_set(
     alloc: Global,
     case: Case<'_>,

@@ -1,8 +1,8 @@
 //! Rows of documents and sets of fields that get a meaning under a schema, with the walks over these, and fields that sets make; and
 //! of schemas, of parts of documents by themselves, of documents, and of sets of fields, that are judged by rules.
 //!
-//! For the program of rows, which says how each rule is called (`Rules`): `Judging` has the calls over these. It needs no crate of
-//! rules, so that it is proved beside them and not after them.
+//! For the program of rows, which says how each rule is called (`Rules`): `Judging` has the calls over these. It needs no
+//! crate of rules, so that it is proved at the same time and not after them.
 //!
 //! Begin with `calls.rt` and `rules.rt`.
 #![tactic(auto)]
@@ -33,5 +33,5 @@ mod words;
 pub use calls::Judging;
 pub use rules::Rules;
 
-// Of the crates beneath, for those above.
+// From the crates below, for those above.
 pub use row_building::{Building, Schema};

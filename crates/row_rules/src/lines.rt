@@ -48,14 +48,14 @@ pub(crate) fn push_inline(inline: &InlineFragment, lines: &mut Lines) {
     lines.show_between(" in ", &inline.selection_set.ty, "\n");
 }
 
-/// Adds the name between these, where there is one.
+/// Adds the name between these, if there is one.
 fn push_optional(front: &str, name: &Option<Name>, back: &str, lines: &mut Lines) {
     if let Some(name) = name {
         lines.show_between(front, name, back);
     }
 }
 
-/// Adds what is shown in parentheses, with a comma between each two, or nothing where there is nothing.
+/// Adds what is shown in parentheses, with a comma between each two, or nothing if there is nothing to show.
 fn push_list<T: Display>(list: &[T], lines: &mut Lines) {
     let mut front = "(";
     for shown in list {

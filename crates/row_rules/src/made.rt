@@ -11,7 +11,7 @@ use std::alloc::{AllocError, Global};
 use tree_directives::{Argument, Directive};
 
 /// The selections of a set: a field with one of each part, the same with two of each, a spread and an inline fragment with
-/// these two, and one without a condition; and the one of each part.
+/// two of each, and one without a condition; and the field with one of each part.
 #[derive(Clone, Copy)]
 struct Parts<'a> {
     set: &'a SelectionSet,
@@ -25,7 +25,7 @@ struct Parts<'a> {
     selection: &'a Selection,
 }
 
-/// The parts of a set that has such selections.
+/// The parts of a set that has these selections.
 fn parts_of(set: &SelectionSet) -> Option<Parts<'_>> {
     let single = set.selections.get(0)?.as_field()?.content();
     Some(Parts {
@@ -41,7 +41,8 @@ fn parts_of(set: &SelectionSet) -> Option<Parts<'_>> {
     })
 }
 
-/// Adds which selections of each operation's set its set makes, and whether copies of operations and fragments equal them.
+/// Adds which selections of each operation's set its set makes, and whether copies of operations and fragments equal the
+/// originals.
 pub(crate) fn push_made(
     alloc: Global,
     schema: &Schema,
@@ -104,7 +105,7 @@ fn push_same<T: Clone + PartialEq>(what: &str, made: &T, wanted: &T, lines: &mut
     }
 }
 
-/// The field as `z`, with the argument `x` and each part of the single one, one by one and all.
+/// The field as `z`, with the argument `x` and each part of the single one, one by one and all together.
 fn doubled(parts: Parts<'_>, field: Field) -> Result<Field, AllocError> {
     let value = parts.argument.content().value.clone()?;
     let made = field

@@ -9,7 +9,7 @@ use row_building::Schema;
 use row_files::{Answer, Case, Problem, number, says};
 
 /// Adds what does not merge in each operation, in order, then whether the value that judges them is clean after each, and
-/// how often it compared shapes, where the row asks for another number.
+/// how often it compared shapes, if the row wants another number.
 pub(crate) fn push_merging<R: Rules>(
     judged: &Judged<'_, R>,
     schema: &Schema,
@@ -39,7 +39,7 @@ fn push_cleans(cleans: &[bool], answer: &mut Answer) {
     }
 }
 
-/// Adds how often shapes were compared, where that is less or more than the row says.
+/// Adds how often shapes were compared, if that is less or more than the row says.
 fn push_comparisons(case: Case<'_>, comparisons: u128, answer: &mut Answer) -> Result<(), Problem> {
     let least = number(case.row, "at_least", "0")? as u128;
     let most = number(case.row, "at_most", "most")? as u128;

@@ -1,4 +1,4 @@
-//! Fields that a set makes of a name.
+//! Fields that a set makes from a name.
 
 use crate::lines::push_field;
 use graphql_documents::{Field, FieldExt, NewFieldError, SelectionSet, SelectionSetExt};
@@ -7,7 +7,7 @@ use row_building::{ExtendedType, FieldLookupError, Schema};
 use row_files::{Answer, Case, Problem, text_of};
 use std::alloc::Global;
 
-/// Adds the field that a set on the row's type makes of the input, which is a name, or why it makes none.
+/// Adds the field that a set on the row's type makes from the input, which is a name, or why it makes none.
 pub(crate) fn push_new_field(
     alloc: Global,
     case: Case<'_>,
@@ -57,7 +57,7 @@ fn push_missing(error: FieldLookupError<'_>, answer: &mut Answer) {
     }
 }
 
-/// Adds the status, and of which kind the type of this name is.
+/// Adds the status, and the kind of the type of this name.
 fn push_type(status: &str, name: &Name, ty: &ExtendedType, answer: &mut Answer) {
     answer.status.put(status);
     answer.text.show_between("", name, " is ");

@@ -1,10 +1,10 @@
-//! What is kept of a set, in lines: each selection with what it means, and below it, further in, those in it.
+//! What is kept of a set, in lines: each selection with what it means, and below it, indented, those in it.
 
 use crate::lines::{push_field, push_inline, push_spread};
 use graphql_documents::{Selection, SelectionSet};
 use row_files::Lines;
 
-/// Adds the lines of the selections of a set, which stands so deep.
+/// Adds the lines of the selections of a set at this depth.
 #[cycle(outline)]
 pub(crate) fn push_set(set: &SelectionSet, depth: usize, lines: &mut Lines) {
     for selection in &set.selections {
@@ -13,7 +13,7 @@ pub(crate) fn push_set(set: &SelectionSet, depth: usize, lines: &mut Lines) {
     }
 }
 
-/// Adds the line of a selection, and those of what is in it, so deep.
+/// Adds the line of a selection at this depth, and those of what is in it.
 #[cycle(outline)]
 fn push_selection(selection: &Selection, depth: usize, lines: &mut Lines) {
     match selection {

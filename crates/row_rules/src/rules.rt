@@ -37,7 +37,7 @@ pub trait Rules {
         list: &mut DiagnosticList,
     ) -> Result<(), AllocError>;
 
-    /// `validate_variable_usage` of an argument in the operation, against what is defined.
+    /// `validate_variable_usage` of an argument in the operation, against the argument's definition.
     fn usage(
         &self,
         definition: &Node<InputValueDefinition>,
@@ -55,7 +55,7 @@ pub trait Rules {
         list: &mut DiagnosticList,
     ) -> Result<(), AllocError>;
 
-    /// `validate_executable_document`, or `validate_standalone_executable` where there is no schema.
+    /// `validate_executable_document`, or `validate_standalone_executable` if there is no schema.
     fn document(
         &self,
         schema: Option<&Schema>,

@@ -7,8 +7,8 @@ use graphql_faults::DiagnosticList;
 use row_building::Schema;
 use row_files::{Answer, Lines, Problem, number};
 
-/// Adds what breaks a rule in the schema, or in so many of its types as the row says, after the scalars that are left or
-/// noted where the call asks for them.
+/// Adds what breaks a rule in the schema, or in as many of its types as the row says; before that the scalars that are
+/// left or noted, if the call asks for them.
 pub(crate) fn push_rules<R: Rules>(
     judged: &Judged<'_, R>,
     schema: &mut Schema,

@@ -1,4 +1,4 @@
-//! What is told, in the order of places: in which order a call tells faults is nowhere asked for.
+//! What is told, in the order of places: in which order a call tells faults is not tested.
 
 use crate::copies::push_copies;
 use graphql_documents::BuildError;
@@ -24,8 +24,8 @@ pub(crate) fn push_typing(
     Ok(())
 }
 
-/// Adds a line for each fault, those that stand first in front. The status tells whether there is one, and first where the copy
-/// of one is another.
+/// Adds a line for each fault, in the order of places. The status tells whether there is one, and before that whether the
+/// copy of one differs.
 pub(crate) fn push_told(
     alloc: Global,
     case: Case<'_>,
@@ -43,7 +43,7 @@ pub(crate) fn push_told(
     Ok(())
 }
 
-/// Adds that the call returned, and what the row wants where each fault is one of that.
+/// Adds that the call returned, and what the row wants if each fault is one of those.
 pub(crate) fn push_returned(
     alloc: Global,
     case: Case<'_>,
@@ -67,7 +67,7 @@ fn push_lines(lines: &[Told], answer: &mut Answer) {
     }
 }
 
-/// The lines of the faults, those that stand first in front.
+/// The lines of the faults, in the order of places.
 fn lines_of(alloc: Global, list: &DiagnosticList) -> Result<Vec<Told>, AllocError> {
     let mut lines = Vec::new(alloc);
     for (place, details) in list.iter() {
@@ -120,7 +120,7 @@ fn is_wanted(case: Case<'_>, text: &str) -> bool {
     false
 }
 
-/// Adds what the row wants, of which some is told.
+/// Adds what the row wants, some of which is told.
 fn push_wanted(case: Case<'_>, answer: &mut Answer) {
     answer.text.put(wanted_of(case));
 }

@@ -27,7 +27,8 @@ pub(crate) fn push_use<R: Rules>(
     push_faults_of(judged, schema, &given.document, answer)
 }
 
-/// Adds whether a field of this type serves where an interface has one of the row's type, or a variable where that is asked for.
+/// Adds whether a field of this type serves where an interface has one of the row's type; or a variable, if that is asked
+/// for.
 fn push_covariant<R: Rules>(
     judged: &Judged<'_, R>,
     schema: &Schema,
@@ -93,7 +94,7 @@ fn tell_directives<R: Rules>(
     Ok(rules.directives(schema, operation, location, list)?)
 }
 
-/// Tells whether the variable that the operation's first field is given may stand where the schema asks for one.
+/// Tells whether the variable that the operation's first field is given may be used where the schema asks for one.
 fn tell_usage<R: Rules>(
     judged: &Judged<'_, R>,
     schema: &Schema,

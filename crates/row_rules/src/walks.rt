@@ -67,7 +67,7 @@ fn push_own_fields(set: &SelectionSet, lines: &mut Lines) {
     }
 }
 
-/// Adds what a walk lends from an operation, or whether that is an introspection, or what is kept of it.
+/// Adds what a walk from an operation lends, or whether the operation is an introspection, or what is kept of it.
 fn push_walk(
     alloc: Global,
     call: &str,
@@ -87,7 +87,7 @@ fn push_walk(
     }
 }
 
-/// Adds each field that the walk lends, which the operation reaches at any depth, and the end.
+/// Adds each field that the walk lends, which the operation reaches at any depth, and then the end of the walk.
 fn push_all_fields(walk: AllFields<'_>, lines: &mut Lines) -> Result<(), AllocError> {
     let mut walk = walk;
     for field in &mut walk {
@@ -97,7 +97,8 @@ fn push_all_fields(walk: AllFields<'_>, lines: &mut Lines) -> Result<(), AllocEr
     Ok(())
 }
 
-/// Adds each field that the walk lends, which the operation reaches in no other field, and the end.
+/// Adds each field that the walk lends, which the operation reaches without entering a field, and then the end of the
+/// walk.
 fn push_root_fields(walk: RootFields<'_>, lines: &mut Lines) -> Result<(), AllocError> {
     let mut walk = walk;
     for field in &mut walk {
@@ -107,7 +108,7 @@ fn push_root_fields(walk: RootFields<'_>, lines: &mut Lines) -> Result<(), Alloc
     Ok(())
 }
 
-/// Adds the end of a walk: whether it lends nothing more, asked twice again.
+/// Adds the end of a walk: whether it lends nothing more, asked twice.
 fn push_end(is_over: bool, lines: &mut Lines) {
     lines.put(if is_over {
         "  end\n"

@@ -4,7 +4,8 @@ use graphql_faults::{CommaSeparated, NameOrAnon};
 use row_files::Answer;
 use std::alloc::{AllocError, Global};
 
-/// Adds the lines of the text as a list, and the first of them as the name of an operation, which is anonymous where there is none.
+/// Adds the lines of the text as a list, and the first of them as the name of an operation, which is anonymous if there is
+/// none.
 pub(crate) fn push_words(alloc: Global, text: &str, answer: &mut Answer) -> Result<(), AllocError> {
     let mut items = Vec::new(alloc);
     for line in text.lines() {

@@ -3,7 +3,7 @@
 use checker_calls::Layout;
 use row_files::{Case, Field, Problem, Way, number, text_of};
 
-/// The fields that rows of the call may have beside those of every row. None where there is no such call.
+/// The fields that rows of the call may have apart from those of every row. None if there is no such call.
 pub(crate) fn names_of(call: &str) -> Option<&'static [&'static str]> {
     match call {
         "check_texts" | "lent" => Some(&["nesting", "schema", "document"]),
@@ -23,7 +23,7 @@ pub(crate) fn names_of(call: &str) -> Option<&'static [&'static str]> {
     }
 }
 
-/// On which terms texts are judged, and how they are written.
+/// The terms on which texts are judged, and how they are written.
 #[derive(Clone, Copy)]
 pub struct Asked {
     /// How many brackets may be open at once.
@@ -37,14 +37,14 @@ pub struct Asked {
     pub(crate) telling: Telling,
 }
 
-/// By what an accepted document is told.
+/// What is told of an accepted document.
 #[derive(Clone, Copy)]
 pub(crate) enum Telling {
-    /// By the texts that it and its schema are written as.
+    /// The texts that it and its schema are written as.
     Texts,
-    /// By what it lends.
+    /// What it lends.
     Lent,
-    /// By the texts under each layout, apart, for the road back.
+    /// The texts under each layout, each by itself, for the road back.
     Pairs,
 }
 
@@ -59,7 +59,7 @@ impl Telling {
     }
 }
 
-/// What the row asks for, under the limit of the way.
+/// What the row asks for, under the nesting limit of the way.
 pub(crate) fn asked_of(case: Case<'_>, way: Way<'_>) -> Result<Asked, Problem> {
     let (name, layout) = layout_of(case)?;
     Ok(Asked {

@@ -1,4 +1,4 @@
-//! The road back: what an accepted pair is written as is accepted, and is written again with the same bytes.
+//! The road back: the written form of an accepted pair is accepted, and is written again with the same bytes.
 
 use crate::asked::Asked;
 use crate::checks::{Checks, Texts};

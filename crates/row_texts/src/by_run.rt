@@ -9,7 +9,7 @@ use row_files::{
 };
 use std::alloc::AllocError;
 
-/// Judges the row by `run`, by each of its plans.
+/// Judges the row by `run`, with each of its plans.
 pub(crate) fn by_run<C: Checks>(
     judged: &Judged<'_, C>,
     way: Way<'_>,
@@ -30,7 +30,7 @@ pub(crate) fn by_run<C: Checks>(
     Ok(())
 }
 
-/// The reader of each text ends after each number of bytes, and at its end: nothing is out.
+/// The reader of each text ends after each number of bytes, and at its end: nothing is written.
 fn readers_end<C: Checks>(
     judged: &Judged<'_, C>,
     way: Way<'_>,
@@ -73,7 +73,7 @@ fn reader_ends<C: Checks>(
     by_plan(&wanted, way, tally)
 }
 
-/// Judges the answer by the plan.
+/// Judges the answer with the plan.
 fn by_plan<C: Checks>(
     judged: &Judged<'_, C>,
     way: Way<'_>,
@@ -84,7 +84,7 @@ fn by_plan<C: Checks>(
     compare_cut(judged.alloc, judged.case, way, tally)
 }
 
-/// Runs by the way's plan, and adds the output and the status of that.
+/// Runs with the way's plan, and adds the output and the status of that.
 fn run_by<C: Checks>(
     judged: &Judged<'_, C>,
     way: Way<'_>,

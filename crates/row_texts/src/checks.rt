@@ -9,7 +9,7 @@ use crate::told::Told;
 use checker_calls::{CheckError, Outcome, RunFault, Verdict};
 use graphql_names::{Cut, Device};
 
-/// The texts that a call is given, and on which terms they are judged.
+/// The texts that a call is given, and the terms on which they are judged.
 #[derive(Clone, Copy)]
 pub struct Texts<'a> {
     pub schemas: &'a [&'a str],
@@ -24,8 +24,8 @@ pub trait Checks {
     /// The answer of `check_texts`.
     fn check_texts(&self, texts: Texts<'_>) -> Result<Verdict, CheckError>;
 
-    /// Adds the answers of `Checker::new`, `add_schema`, `finish`, then of `check` to each further document, while what it gives
-    /// of the first document is kept, and last what that tells: both `written`, or what it lends.
+    /// Adds the answers of `Checker::new`, `add_schema`, `finish`, then of `check` for each further document, while what it
+    /// gives for the first document is kept, and then what that tells: both `written`, or what it lends.
     fn judge(&self, texts: Texts<'_>, told: &mut Told);
 
     /// The answer of `run`.

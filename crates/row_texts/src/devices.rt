@@ -37,8 +37,8 @@ pub(crate) fn failed_reader(schemas: &[Device<Cut<&[u8]>>], document: bool) -> u
     0
 }
 
-/// Adds how a run ends: its status in words, or that another device has failed than its answer tells. Failed have the reader of
-/// this number, if it is not 0, and the writer, if that is said.
+/// Adds how a run ends: its status in words, or that a device has failed other than the one that its answer tells. Those
+/// that failed are the reader of this number, if it is not 0, and the writer, if that is said.
 pub(crate) fn push_end(
     answer: Result<Outcome, RunFault>,
     failed: (usize, bool),
@@ -61,7 +61,7 @@ fn told_failures(answer: Result<Outcome, RunFault>) -> (usize, bool) {
     }
 }
 
-/// Adds the status in words: the program's status, what it tells, and for whom the place or the number of bytes.
+/// Adds the status in words: the program's status, and the fault, for a writer with the number of bytes.
 fn push_status(answer: Result<Outcome, RunFault>, words: &mut Lines) {
     words.show(&exit_status(&answer));
     match answer {

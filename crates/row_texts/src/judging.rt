@@ -119,7 +119,7 @@ fn by_all<C: Checks>(
     judge_back(judged, way, tally)
 }
 
-/// Judges the texts by a call that takes them whole.
+/// Judges the texts by a call that takes them all at once.
 fn judge_call<C: Checks>(
     judged: &Judged<'_, C>,
     call: &str,
@@ -140,8 +140,8 @@ fn judge_call<C: Checks>(
     by_whole(judged, way, texts, tally)
 }
 
-/// Judges the answer of `check_texts`, the one call by call, or the road back. `check_texts` writes no texts: of those
-/// accepted the row's first line is wanted.
+/// Judges the answer of `check_texts`, the one call by call, or the road back. `check_texts` writes no texts: if they
+/// are accepted, the row's first line is wanted.
 fn by_whole<C: Checks>(
     judged: &Judged<'_, C>,
     way: Way<'_>,
@@ -171,7 +171,7 @@ fn by_judge<C: Checks>(
     told.compare(judged.case, way, tally)
 }
 
-/// Judges the road back, where the row wants the pair accepted.
+/// Judges the road back, if the row wants the pair accepted.
 fn judge_back<C: Checks>(
     judged: &Judged<'_, C>,
     way: Way<'_>,
@@ -184,7 +184,7 @@ fn judge_back<C: Checks>(
     }
 }
 
-/// The call that answers before the road back: one that writes texts, where the row wants more than the line `accepted`.
+/// The call that answers before the road back: one that writes texts, if the row wants more than the line `accepted`.
 fn call_before_back(out: &[u8]) -> &'static str {
     if first_line(out).len() < out.len() {
         "calls"
@@ -193,7 +193,7 @@ fn call_before_back(out: &[u8]) -> &'static str {
     }
 }
 
-/// The first line of an output that begins with `accepted`, and every other output whole.
+/// The first line of an output that begins with `accepted`; any other output whole.
 fn first_line(out: &[u8]) -> &[u8] {
     let accepted = b"accepted\n".as_slice();
     if out.starts_with(accepted) {

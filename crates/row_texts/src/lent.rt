@@ -4,7 +4,7 @@ use document_typed_operations::ExecutableDocument;
 use document_typed_selections::{Field, SelectionSet};
 use graphql_names::Node;
 use row_files::Answer;
-use rule_document_ground::{FieldSelection, laws};
+use rule_reach::{FieldSelection, laws};
 use std::hash::{DefaultHasher, Hash, Hasher};
 
 /// Adds a line for each field of the sets of its operations, and then of its fragments.

@@ -1,8 +1,8 @@
-//! Rows of schema texts and documents that a checker judges: on which terms a row wants its texts judged, in which ways they go
-//! to the checker, and what its answers are in words.
+//! Rows of schema texts and documents that a checker judges: the terms on which a row wants its texts judged, the ways in
+//! which they go to the checker, and what its answers are in words.
 //!
-//! For the program of rows, which says how the checker answers (`Checks`): `Checking` has the calls over these. Whatever needs no call
-//! of the checker stands here, so that it is proved beside the checker and not after it.
+//! For the program of rows, which says how the checker answers (`Checks`): `Checking` has the calls over these. Whatever
+//! needs no call of the checker is here, so that it is proved at the same time as the checker and not after it.
 //!
 //! Begin with `checks.rt` and `judging.rt`.
 #![tactic(auto)]

@@ -19,7 +19,7 @@ impl Drop for Pair {
     }
 }
 
-/// Adds what a pair is written as, where memory serves.
+/// Adds what a pair is written as, if memory suffices.
 pub(crate) fn push_pair(
     name: &'static str,
     schema: Result<String, AllocError>,

@@ -51,7 +51,7 @@ impl Told {
         self.answer.status.put(", ");
     }
 
-    /// Adds that a document is accepted, or what it lends. For the road back its texts are told alone.
+    /// Adds that a document is accepted, or what it lends. For the road back only its texts are told.
     pub fn accept(&mut self, document: &ExecutableDocument) {
         match self.asked.telling {
             Telling::Texts => self.answer.show("0", &"accepted\n"),

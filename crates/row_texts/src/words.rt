@@ -6,7 +6,7 @@ use graphql_names::{FileId, SourceSpan};
 use row_files::{Answer, Lines};
 use std::alloc::AllocError;
 
-/// Adds a text that is written under the layout, as a line where it is one.
+/// Adds a text that is written under the layout, ended as a line if it is on one line.
 pub(crate) fn push_text(
     written: Result<String, AllocError>,
     layout: Layout<'_>,
@@ -50,7 +50,7 @@ fn push_refused(list: &DiagnosticList, answer: &mut Answer) {
     answer.status.put("1");
 }
 
-/// Adds where a fault is; what is built in stands nowhere.
+/// Adds where a fault is; what is built in has no place.
 fn push_place(place: Option<SourceSpan>, lines: &mut Lines) {
     match place {
         Some(span) if span.file_id != FileId::BUILT_IN => {

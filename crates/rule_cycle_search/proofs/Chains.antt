@@ -9,7 +9,7 @@ use Rattle.rule_cycle_search.proofs.Lists.{Contains-cons, Contains-first, not_in
 use Rattle.rule_cycle_search.specs.declared.graph.Graph.{Graph}
 use Rattle.rule_cycle_search.specs.declared.steps.Step.{Step}
 use Rattle.rule_cycle_search.specs.Graph.{references, RefersTo, LeadsTo}
-use Rattle.rule_cycle_search.specs.Steps.{via_at}
+use Rattle.rule_cycle_search.specs.NodeSteps.{via_at}
 use Rattle.rule_cycle_search.specs.Spread.{IsTree}
 use Rattle.rule_cycle_search.specs.Ways.{Goes}
 use Rattle.rule_cycle_search.specs.Depths.{Chain, Apart}

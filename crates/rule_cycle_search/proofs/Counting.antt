@@ -7,7 +7,7 @@ use Rattle.rule_cycle_search.proofs.Lists.{Contains-cons, not_in_nil}
 use Rattle.rule_cycle_search.specs.declared.graph.Graph.{Graph}
 use Rattle.rule_cycle_search.specs.declared.steps.Step.{Step}
 use Rattle.rule_cycle_search.specs.Graph.{references, LeadsTo, is_first, is_of, IsDeep}
-use Rattle.rule_cycle_search.specs.Steps.{is_in, IsIn}
+use Rattle.rule_cycle_search.specs.NodeSteps.{is_in, IsIn}
 use Rattle.rule_cycle_search.specs.Parts.{IsWhole}
 use Rattle.rule_cycle_search.specs.Depths.{Chain, HasWay, AreCounted}
 use Rattle.rule_cycle_search.proofs.Sets.{slice_get-set_cases}

@@ -7,4 +7,5 @@ pub mod Members
 pub mod Chains
 pub mod Rounds
 pub mod Parting
+pub mod Nowhere
 pub mod Counting

@@ -1,12 +1,17 @@
 -- Lemmas on lists, once for all that stands on this crate.
-use Rattle.std.proofs.Common.{◌≡◌, ℕ, ◌<◌, ◌⊎◌, List, [], ◌∷◌, get_or, map, length, refl, sym, ap, subst, inl, inr, Option, None, Some, Contains, zero, suc, arith, slice_get}
+use Rattle.std.proofs.Common.{◌≡◌, ℕ, ◌<◌, ◌⊎◌, List, [], ◌∷◌, get_or, map, length, ◌==◌, true, refl, sym, ap, subst, inl, inr, Option, None, Some, Contains, zero, suc, arith, slice_get}
 use Rattle.std.specs.List.{flat_map}
 use Rattle.std.specs.Option.{option_map}
+use Rattle.std.proofs.lemmas.Bool.{eqb-true}
 use Rattle.std.proofs.lemmas.List.Elements.{Contains-append_left, Contains-append_right, Contains-append_cases}
 
 module _ {X : Type 0} where
   pub not_in_nil : {R : Type 0} (y : X) → Contains [] y → R
   not_in_nil y h = absurd (omega (arith, h.1))
+
+  pub empty_is : (xs : List X) → (length xs == 0) ≡ true → xs ≡ []
+  empty_is [] h = refl
+  empty_is (x ∷ xs) h = absurd (omega (arith, eqb-true (length (x ∷ xs)) 0 h))
 
   pub Contains-cons : (x : X) (xs : List X) (y : X) → Contains (x ∷ xs) y → (x ≡ y) ⊎ Contains xs y
   Contains-cons x xs y (k, h, e) = by k h e

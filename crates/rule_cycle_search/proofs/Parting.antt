@@ -11,7 +11,7 @@ use Rattle.rule_cycle_search.proofs.Lists.{not_in_nil}
 use Rattle.rule_cycle_search.specs.declared.graph.Graph.{Graph}
 use Rattle.rule_cycle_search.specs.declared.steps.Step.{Step}
 use Rattle.rule_cycle_search.specs.Graph.{listed, references, RefersTo, LeadsTo, IsWayBack}
-use Rattle.rule_cycle_search.specs.Steps.{is_in, IsIn, via_at}
+use Rattle.rule_cycle_search.specs.NodeSteps.{is_in, IsIn, via_at}
 use Rattle.rule_cycle_search.specs.Spread.{IsTree, Spreads}
 use Rattle.rule_cycle_search.specs.Referrers.{AreReferrers}
 use Rattle.rule_cycle_search.specs.Parts.{nowhere, IsPart, IsParted, IsWhole, Settles}

@@ -6,7 +6,7 @@ use Rattle.std.proofs.lemmas.Bool.{cases_lt, eq-eqb}
 use Rattle.std.proofs.lemmas.Option.{slice_get_past, slice_get-get_or}
 use Rattle.std.proofs.lemmas.List.Sums.{sum_by-set}
 use Rattle.rule_cycle_search.specs.declared.steps.Step.{Step}
-use Rattle.rule_cycle_search.specs.Steps.{is_in, IsIn, via_at, left}
+use Rattle.rule_cycle_search.specs.NodeSteps.{is_in, IsIn, via_at, left}
 
 pub slice_get-set_cases : {X : Type 0} (xs : List X) (i : ℕ) (y : X) (n : ℕ) → i < length xs → ((n ≡ i) × (slice_get (set xs i y) n ≡ Some y)) ⊎ ((n ≡ i → ⊥) × (slice_get (set xs i y) n ≡ slice_get xs n))
 slice_get-set_cases [] i y n h = absurd (omega arith)

@@ -7,7 +7,7 @@ use Rattle.std.proofs.lemmas.List.Elements.{Contains-append_cases, Contains-appe
 use Rattle.rule_cycle_search.proofs.Lists.{Contains-cons, not_in_nil, only}
 use Rattle.rule_cycle_search.specs.Graph.{listed}
 use Rattle.rule_cycle_search.specs.declared.steps.Step.{Step}
-use Rattle.rule_cycle_search.specs.Steps.{is_in, IsIn, via_at, left}
+use Rattle.rule_cycle_search.specs.NodeSteps.{is_in, IsIn, via_at, left}
 use Rattle.rule_cycle_search.specs.Spread.{Reaches, Spreads, Spreading}
 use Rattle.rule_cycle_search.proofs.Sets.{set_cases, in_same, via_same, left_set}
 
@@ -98,6 +98,22 @@ module _ (lists : List (Vec ℕ Global)) (area : List Step) (key c : ℕ) (old :
         tree = record { rank = λ n. 0; links = λ n h. inl (alone n h) };
         closed = λ n h. inl (subst (Contains (c ∷ [])) (sym (alone n h)) (0, omega arith, refl));
       }))
+
+  -- the center leads to nothing
+  pub Spreads-alone : c < length old → ((n : ℕ) → is_in old c n ≡ false) → (new : List Step) → new ≡ set old c (record { center = c; via = c }) → listed lists c ≡ [] → Spreads lists area key c old new
+  Spreads-alone within fresh new written none =
+      let s = Spreading-begin within fresh new written (c ∷ []) refl in
+      record {
+        long = s.long;
+        others = s.others;
+        begins = s.begins;
+        inside = s.inside;
+        tree = s.tree;
+        closed = λ n e h m a. elim (s.closed n h) [
+          | inl d ↦ absurd (not_in_nil e (subst (λ l. Contains l e) (ap (listed lists) (only c n d) ∙ none) m))
+          | inr all ↦ all e m a
+        ];
+      }
 
   module _ (at : ℕ) (mid : List Step) (reached : List ℕ) (s : Spreading lists area key c at old mid reached) (here : at < length reached) (node : ℕ) (is : node ≡ get_or reached at 0) (new : List Step) (after : List ℕ) (r : Reaches area key c node (listed lists node) mid new reached after) where
     goes_on : (n : ℕ) → IsIn mid c n → IsIn new c n

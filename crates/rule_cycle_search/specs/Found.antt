@@ -6,13 +6,13 @@ use Rattle.rule_cycle_search.specs.declared.found.Found.TheVariants.{Nothing, Wa
 use Rattle.rule_cycle_search.specs.Graph.{IsWayBack, IsDeep}
 
 module _ (g : Graph) where
-  -- this is so of the root
+  -- what is found of the root is true
   abbrev pub Finds : ℕ → Found → Type 0
   Finds root Nothing = (path : List ℕ) → IsWayBack g root path → ⊥
   Finds root (WayBack path) = IsWayBack g root path.items
   Finds root Deep = IsDeep g root
 
-  -- and so on for all roots, in order
+  -- what is found of each root, in order, is true
   pub record AreFound (all : List Found) : Type 0 where
     pub long : length all ≡ g.roots
     pub each : (root : ℕ) (found : Found) → slice_get all root ≡ Some found → Finds root found

@@ -1,11 +1,11 @@
--- Private: leads to `CyclesBreak` and `RecursiveFragmentDefinitionAt`. Graphs whose nodes are numbers: what each refers to, and ways along the references.
+-- Private: leads to `CyclesBreak` and `RecursiveFragmentDefinitionAt`. Graphs whose nodes are numbers: what each refers to, and paths along references.
 use Rattle.std.specs.Prelude.{◌≡◌, ℕ, ◌<◌, Bool, true, false, not, List, [], ◌∷◌, Contains, slice_get, nat_lt, count_by, ◌⊎◌, Vec}
 use Rattle.std.specs.Global.{Global}
 use Rattle.std.specs.Option.{option_map_or}
 use Rattle.rule_cycle_search.specs.declared.graph.Graph.{Graph}
 use Rattle.rule_cycle_search.specs.Paths.{Leads, IsWay, HasNoRepeat}
 
--- what is listed at a number
+-- the list of a number, empty if it has none
 abbrev pub listed : List (Vec ℕ Global) → ℕ → List ℕ
 listed lists n = option_map_or (λ v. v.items) (slice_get lists n) []
 
@@ -18,7 +18,7 @@ RefersTo g n e m = Contains (references g n) e × (e ≡ m)
 abbrev pub LeadsTo : Graph → ℕ → List ℕ → ℕ → Type 0
 LeadsTo g = Leads (RefersTo g)
 
--- a node is of the first kind, or of the other
+-- the node is of the first kind; below, of the other
 abbrev pub is_first : Graph → ℕ → Bool
 is_first g n = nat_lt n g.first_kind
 
@@ -29,14 +29,14 @@ abbrev pub is_of : Graph → Bool → ℕ → Bool
 is_of g true n = is_first g n
 is_of g false n = is_other g n
 
--- these references lead from the root back to it
+-- these references, at least one, lead from the root back to it
 abbrev pub IsWayBack : Graph → ℕ → List ℕ → Type 0
 IsWayBack g root path = (by : ℕ) × ((rest : List ℕ) × ((path ≡ by ∷ rest) × LeadsTo g root (by ∷ rest) root))
 
--- these are more of one kind than the bound
+-- the path has more nodes of one kind than the bound
 abbrev pub AreTooMany : Graph → List ℕ → Type 0
 AreTooMany g way = (g.bound < count_by (is_first g) way) ⊎ (g.bound < count_by (is_other g) way)
 
--- a way without repetition from the root holds more of one kind than the bound
+-- a path without repetition from the root has more nodes of one kind than the bound
 abbrev pub IsDeep : Graph → ℕ → Type 0
 IsDeep g root = (rest : List ℕ) × (IsWay (RefersTo g) (root ∷ rest) × (HasNoRepeat (root ∷ rest) × AreTooMany g (root ∷ rest)))

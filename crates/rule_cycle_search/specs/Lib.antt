@@ -1,6 +1,6 @@
 pub mod Paths
 pub mod Graph
-pub mod Steps
+pub mod NodeSteps
 pub mod Spread
 pub mod Referrers
 pub mod Order

@@ -4,7 +4,7 @@ use Rattle.rule_cycle_search.specs.declared.graph.Graph.{Graph}
 use Rattle.rule_cycle_search.specs.declared.steps.Step.{Step}
 use Rattle.rule_cycle_search.specs.declared.parts.Divided.{Divided}
 use Rattle.rule_cycle_search.specs.Graph.{references, LeadsTo}
-use Rattle.rule_cycle_search.specs.Steps.{is_in, IsIn}
+use Rattle.rule_cycle_search.specs.NodeSteps.{is_in, IsIn}
 use Rattle.rule_cycle_search.specs.Spread.{IsTree}
 
 module _ (g : Graph) where
@@ -12,7 +12,8 @@ module _ (g : Graph) where
   abbrev pub nowhere : ℕ
   nowhere = length g.references.items
 
-  -- steps lead from each node of the part to its center and back, and what leads to a node and back is in its part
+  -- steps lead from each node of the part to its center, and from there back; a node that a node of the part leads
+  -- to and that leads back is in the part
   pub record IsPart (toward from : List Step) (c : ℕ) : Type 0 where
     pub onward : IsTree (IsIn from c) (λ n v. Contains (references g n) v) c toward
     pub back : IsTree (IsIn from c) (λ n v. Contains (references g v) n) c from
@@ -26,7 +27,7 @@ module _ (g : Graph) where
     pub from_center : (n c : ℕ) → IsIn from c n → (c ≡ nowhere) ⊎ IsIn from c c
     pub part : (c : ℕ) → (c ≡ nowhere → ⊥) → IsIn from c c → IsPart toward from c
 
-  -- a node is settled, and what was settled stays so
+  -- the node is settled, and so are all that were settled before
   pub record Settles (node : ℕ) (before toward from : List Step) : Type 0 where
     pub parted : IsParted toward from
     pub settled : is_in from nowhere node ≡ false

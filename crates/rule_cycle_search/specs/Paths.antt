@@ -1,9 +1,10 @@
--- Ways from one thing to another by what refers to it: no order of walking, no set of what was seen.
+-- Paths from one thing to another along references: without an order of traversal, and without a set
+-- of visited things.
 use Rattle.std.specs.Prelude.{◌≡◌, ℕ, List, [], ◌∷◌, slice_get, Some}
 
--- `Refers x by y`: x refers to y by this
+-- `Refers x by y`: x refers to y, and `by` is the reference
 module _ {X R : Type 0} (Refers : X → R → X → Type 0) where
-  -- these references, each from where the one before it leads, lead from one to the other
+  -- these references lead from x to y, each from where the one before it leads
   abbrev pub Leads : X → List R → X → Type 0
   Leads x [] y = x ≡ y
   Leads x (by ∷ rest) y = (z : X) × (Refers x by z × Leads z rest y)
@@ -14,6 +15,6 @@ module _ {X R : Type 0} (Refers : X → R → X → Type 0) where
   IsWay (x ∷ []) = Unit {0}
   IsWay (x ∷ y ∷ rest) = ((by : R) × Refers x by y) × IsWay (y ∷ rest)
 
--- nothing stands in it twice
+-- nothing is in the list twice
 abbrev pub HasNoRepeat : {X : Type 0} → List X → Type 0
 HasNoRepeat {X} xs = (i j : ℕ) (x : X) → slice_get xs i ≡ Some x → slice_get xs j ≡ Some x → i ≡ j

@@ -1,4 +1,4 @@
-//! How many nodes of a kind are on the ways from a node, where these do not come back to a part.
+//! How many nodes of a kind are on the paths from a node of which each step leads to another part.
 ghost use Rattle.std.specs.Prelude.{◌≡◌, ℕ, Bool, IfOk};
 ghost use Rattle.rule_cycle_search.specs.Graph.{is_of};
 ghost use Rattle.rule_cycle_search.specs.Parts.{IsDivided};
@@ -9,7 +9,7 @@ use crate::parts::Divided;
 use crate::steps::is_in;
 use std::alloc::{AllocError, Global};
 
-/// How many of a kind a way holds that goes from a node to another part; the node counts if it is of that kind.
+/// How many nodes of a kind are on a path that goes from a node to another part; the node counts if it is of that kind.
 fn depth_of(divided: &Divided<'_>, node: usize, counts: bool, depths: &[usize]) -> usize
     requires { IsDivided divided.now }
     ensures { (kind : ℕ → Bool) → kind node ≡ counts → AreCounted divided.now.graph.now kind depths.now → HasWay divided.now.graph.now kind node result }
@@ -30,7 +30,7 @@ fn depth_of(divided: &Divided<'_>, node: usize, counts: bool, depths: &[usize]) 
     most
 }
 
-/// Counts again for each node of the order, which best has what a node refers to before the node.
+/// Counts for each node of the order. It is best if what a node refers to comes before the node.
 fn deepen(divided: &Divided<'_>, order: &[usize], first: bool, depths: &mut [usize])
     requires whole { IsDivided divided.now }
     requires counted { AreCounted divided.now.graph.now (is_of divided.now.graph.now first) depths.old }
@@ -44,7 +44,7 @@ fn deepen(divided: &Divided<'_>, order: &[usize], first: bool, depths: &mut [usi
     }
 }
 
-/// For each node, how many nodes of the first kind, or of the other, a way from it holds, counted to one beyond the bound.
+/// For each node, how many nodes of the first kind, or of the other, a path from it has, counted to one beyond the bound.
 pub(crate) fn find_depths(
     alloc: Global,
     divided: &Divided<'_>,

@@ -1,10 +1,11 @@
 //! What is found of the roots.
-ghost use Rattle.std.specs.Prelude.{◌≡◌, ◌<◌, ℕ, true, false, Contains, IfOk, slice_get, Some};
-ghost use Rattle.rule_cycle_search.specs.Graph.{references, AreTooMany, IsDeep};
-ghost use Rattle.rule_cycle_search.specs.Steps.{is_in, FindsIn};
+ghost use Rattle.std.specs.Prelude.{◌≡◌, ◌<◌, ℕ, [], true, false, Contains, IfOk, IsTrue, replicate, slice_get, Some};
+ghost use Rattle.rule_cycle_search.specs.Graph.{listed, references, AreTooMany, IsDeep};
+ghost use Rattle.rule_cycle_search.specs.NodeSteps.{is_in, FindsIn};
 ghost use Rattle.rule_cycle_search.specs.Referrers.{AreReferrers};
 ghost use Rattle.rule_cycle_search.specs.Parts.{IsDivided};
 ghost use Rattle.rule_cycle_search.specs.Found.{Finds, AreFound};
+ghost use Rattle.rule_cycle_search.specs.declared.found.Found.TheVariants.{Nothing};
 
 use crate::depths::find_depths;
 use crate::graph::{Graph, listed};
@@ -22,11 +23,11 @@ pub enum Found {
     Nothing,
     /// These references lead from it back to it.
     WayBack(Vec<usize>),
-    /// A way from it holds more nodes of a kind than the bound.
+    /// A path from it has more nodes of a kind than the bound.
     Deep,
 }
 
-/// Whether the way holds more nodes of a kind than the bound.
+/// Whether the path has more nodes of a kind than the bound.
 fn is_long(graph: &Graph, way: &[usize]) -> bool
     ensures { result ≡ true → AreTooMany graph.now way.now }
 {
@@ -52,7 +53,7 @@ fn first_in(steps: &[Step], center: usize, nodes: &[usize]) -> Option<usize>
     None
 }
 
-/// The way round from a root over one that refers to it, where both are in the part of this center.
+/// The cycle from a root over a node that refers to it, where both are in the part of this center.
 fn way_round(
     alloc: Global,
     divided: &Divided<'_>,
@@ -107,7 +108,7 @@ fn look_back(
     }
 }
 
-/// Whether the ways from a node were counted beyond the bound.
+/// Whether the nodes on paths from a node were counted beyond the bound.
 fn is_beyond(depths: &[usize], node: usize, bound: u32) -> bool
     ensures { result ≡ true → (n : ℕ) × ((slice_get depths.now node ≡ Some n) × (bound < n)) }
 {
@@ -117,12 +118,38 @@ fn is_beyond(depths: &[usize], node: usize, bound: u32) -> bool
     }
 }
 
-/// For each root, in order, whether it leads back to itself, and by which references; or that a way from it is too
-/// long. It takes time linear in the references, and for each root no more than ways of bounded length take. It fails
-/// only where memory is refused.
-pub fn ways_back(alloc: Global, graph: &Graph) -> Result<Vec<Found>, AllocError>
+/// Whether no node refers to another.
+fn refer_to_nothing(references: &[Vec<usize>]) -> bool
+    ensures { IsTrue result → (n : ℕ) → listed references.now n ≡ [] }
+{
+    for targets in references {
+        if !targets.is_empty() {
+            return false;
+        }
+    }
+    true
+}
+
+/// Nothing is found of so many roots.
+fn nothing(alloc: Global, roots: usize) -> Result<Vec<Found>, AllocError>
+    ensures { IfOk result (λ all. all.items ≡ replicate roots Nothing) }
+{
+    let mut all = Vec::new(alloc);
+    for _ in 0..roots {
+        all.push(Found::Nothing)?;
+    }
+    Ok(all)
+}
+
+/// For each root, in order, whether it leads back to itself, and by which references; or that a path from it is too
+/// long. It takes time linear in the references, and for each root no more than paths of bounded length take. It
+/// fails only where memory is refused.
+pub fn find_cycles(alloc: Global, graph: &Graph) -> Result<Vec<Found>, AllocError>
     ensures { IfOk result (λ all. AreFound graph.now all.items) }
 {
+    if refer_to_nothing(&graph.references) {
+        return nothing(alloc, graph.roots);
+    }
     let referrers = referrers(alloc, &graph.references)?;
     let order = finishing_order(alloc, &graph.references)?;
     let parts = find_parts(alloc, graph, &referrers, &order)?;

@@ -6,10 +6,10 @@ ghost use Rattle.rule_cycle_search.specs.Graph.{listed};
 /// judged, they are the roots.
 pub struct Graph {
     pub references: Vec<Vec<usize>>,
-    /// How many nodes are of the first kind: nodes of a kind are counted by themselves.
+    /// How many nodes are of the first kind: nodes of each kind are counted separately.
     pub first_kind: usize,
     pub roots: usize,
-    /// The most nodes of a kind on a way.
+    /// The most nodes of a kind on a path.
     pub bound: u32,
 }
 
@@ -24,7 +24,7 @@ impl Drop for Graph {
     }
 }
 
-/// What is listed at a number, nothing where there is no list.
+/// The list of a number, empty if it has none.
 pub(crate) fn listed(lists: &[Vec<usize>], node: usize) -> &[usize]
     ensures { result.now ≡ listed lists.now node }
 {

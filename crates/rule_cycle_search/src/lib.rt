@@ -1,8 +1,8 @@
 //! Which nodes of a graph of numbers lead back to themselves, and by which way, in time linear in the references.
 //!
-//! For the layer above: `ways_back` answers for each root of a `Graph`; `specs/Graph.antt` says what it answers.
+//! For the layer above: `find_cycles` answers for each root of a `Graph`; `specs/Graph.antt` says what the answers mean.
 //!
-//! Nodes that lead to each other are one part, told apart by one of them, its center. `parts.rt` finds the parts; each
+//! Nodes that lead to each other are one part, named by one of its nodes, its center. `parts.rt` finds the parts; each
 //! node then has a step towards the center and one back from it. `ways.rt` follows these.
 //!
 //! Begin with `graph.rt` and `parts.rt`.
@@ -18,5 +18,5 @@ mod spread;
 mod steps;
 mod ways;
 
-pub use found::{Found, ways_back};
+pub use found::{Found, find_cycles};
 pub use graph::Graph;

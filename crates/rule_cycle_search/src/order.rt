@@ -1,4 +1,4 @@
-//! The order in which nodes are best settled.
+//! The order in which nodes are best put into parts.
 ghost use Rattle.std.specs.Prelude.{◌≤◌, ◌+◌, length, OnOk};
 ghost use Rattle.rule_cycle_search.specs.Order.{to_enter};
 
@@ -12,7 +12,7 @@ pub(crate) enum Visit {
     Leave(usize),
 }
 
-/// Enters a node if that is the first time: what it refers to is visited, then it is left.
+/// Enters a node if it was not entered before: what it refers to is visited, then it is left.
 fn enter(
     references: &[Vec<usize>],
     node: usize,
@@ -32,8 +32,8 @@ fn enter(
     Ok(())
 }
 
-/// The nodes as a depth-first search leaves them: where one leads to another that does not lead back, the other comes
-/// first.
+/// The nodes in the order in which a depth-first search leaves them: if one leads to another that does not lead back,
+/// the other comes first.
 pub(crate) fn finishing_order(
     alloc: Global,
     references: &[Vec<usize>],

@@ -22,7 +22,7 @@ pub(crate) struct Divided<'a> {
     pub(crate) parts: &'a Parts,
 }
 
-/// Finds the part of a node, if it is in none as yet: all that leads to the node, and to which that leads.
+/// Finds the part of a node, if it is in none yet: all that leads to the node, and to which the node leads.
 fn settle(
     alloc: Global,
     graph: &Graph,
@@ -50,7 +50,7 @@ fn settle(
     spread(alloc, &graph.references, &leading, node, &mut parts.from)
 }
 
-/// No step is known as yet.
+/// No step is known yet.
 fn no_steps(alloc: Global, nodes: usize) -> Result<Vec<Step>, AllocError>
     ensures { IfOk result (λ r. r.items ≡ replicate nodes (record { center = nodes; via = nodes })) }
 {
@@ -64,7 +64,7 @@ fn no_steps(alloc: Global, nodes: usize) -> Result<Vec<Step>, AllocError>
     Ok(steps)
 }
 
-/// Settles all nodes, first as the order has them, last to first. Where that is an order in which a depth-first search
+/// Finds the part of every node, first in this order, from last to first. In the order in which a depth-first search
 /// leaves them, what leads to a node is no more than its part, so that each reference is followed a few times in all.
 pub(crate) fn find_parts(
     alloc: Global,

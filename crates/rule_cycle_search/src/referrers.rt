@@ -1,11 +1,11 @@
-//! References the other way round.
+//! References in reverse.
 ghost use Rattle.std.specs.Prelude.{IfOk, OnOk};
 ghost use Rattle.rule_cycle_search.specs.Referrers.{AddsReferrer, AreReferrers};
 
 use crate::graph::listed;
 use std::alloc::{AllocError, Global};
 
-/// Lists a node at each of the targets to which it refers.
+/// Adds a node to the list of each target to which it refers.
 fn add_referrer(
     node: usize,
     targets: &[usize],

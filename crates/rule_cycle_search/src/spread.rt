@@ -1,21 +1,21 @@
 //! All that a node leads to.
 ghost use Rattle.std.specs.Prelude.{◌≡◌, ◌<◌, ℕ, length, OnOk, true, false};
 ghost use Rattle.rule_cycle_search.specs.Graph.{listed};
-ghost use Rattle.rule_cycle_search.specs.Steps.{is_in};
+ghost use Rattle.rule_cycle_search.specs.NodeSteps.{is_in};
 ghost use Rattle.rule_cycle_search.specs.Spread.{Reaches, Spreads};
 
 use crate::graph::listed;
 use crate::steps::{Step, is_in};
 use std::alloc::{AllocError, Global};
 
-/// The nodes through which a search goes: those whose step among these is one to the key.
+/// The nodes that a search may visit: those whose step among these has the key as its center.
 #[derive(Clone, Copy)]
 pub(crate) struct Area<'a> {
     pub(crate) steps: &'a [Step],
     pub(crate) key: usize,
 }
 
-/// Goes to those listed in the area that have no step to the center as yet, and gives each this one.
+/// Visits those listed in the area that have no step to the center yet, and gives each of them this step.
 fn reach(
     targets: &[usize],
     area: &Area<'_>,
@@ -52,6 +52,10 @@ pub(crate) fn spread(
         center,
         via: center,
     };
+    // Most nodes refer to nothing.
+    if listed(lists, center).is_empty() {
+        return Ok(());
+    }
     let mut reached = Vec::new(alloc);
     reached.push(center)?;
     let mut at = 0;

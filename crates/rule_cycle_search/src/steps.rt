@@ -1,17 +1,17 @@
 //! Steps to and from the centers of parts.
 ghost use Rattle.std.specs.Prelude.{◌≡◌};
-ghost use Rattle.rule_cycle_search.specs.Steps.{is_in, via_at};
+ghost use Rattle.rule_cycle_search.specs.NodeSteps.{is_in, via_at};
 
-/// One step on a way to or from the center of a part.
+/// One step on a path to or from the center of a part.
 #[derive(Clone, Copy)]
 pub(crate) struct Step {
-    /// The center; the count of all nodes where there is none as yet.
+    /// The center; the number of all nodes if it is not known yet.
     pub(crate) center: usize,
-    /// The next node on the way.
+    /// The next node on the path.
     pub(crate) via: usize,
 }
 
-/// Whether the step of a node is one to this center; what is no node has none.
+/// Whether the step of a node has this center; what is no node has no step.
 pub(crate) fn is_in(steps: &[Step], center: usize, node: usize) -> bool
     ensures { result ≡ is_in steps.now center node }
 {

@@ -1,11 +1,11 @@
-//! Ways along the steps of a part.
+//! Paths along the steps of a part.
 ghost use Rattle.std.specs.Prelude.{◌≡◌, ℕ, IfOk, OnOk, Contains};
 ghost use Rattle.rule_cycle_search.specs.Ways.{Follows, Joins};
 
 use crate::steps::{Step, via_at};
 use std::alloc::{AllocError, Global};
 
-/// Follows the steps from a node to the first of these, which is the last of the way. None where so many others come
+/// Follows the steps from a node to the first of these, which is the last of the path. None if so many others come
 /// before that more than the bound are of one kind.
 pub(crate) fn follow(
     alloc: Global,
@@ -29,7 +29,7 @@ pub(crate) fn follow(
     Ok(None)
 }
 
-/// Makes of a way and one that leads back to a node of it, last node first, the whole way round.
+/// Makes the whole cycle of a path and one that leads back to a node of it, given from its last node to its first.
 pub(crate) fn join(ahead: &mut Vec<usize>, behind: &mut [usize]) -> Result<(), AllocError>
     requires { (n : ℕ) × (Contains ahead.old.items n × Contains behind.old n) }
     ensures { OnOk result (Joins ahead.old.items behind.old ahead.new.items) }

@@ -3,10 +3,10 @@ use Rattle.std.proofs.Common.{List, ◌++◌, ap, ◌∙◌, inl, inr}
 use Rattle.std.proofs.lemmas.List.Elements.{Contains-append_cases, Contains-append_left, Contains-append_right}
 use Rattle.graphql_names.specs.Placed.{Place}
 use Rattle.schema_types.specs.SchemaTree.{SchemaTree}
-use Rattle.fault_data.specs.in_rule_definitions.Told.{PlacedFault}
+use Rattle.fault_data.specs.in_rule_definitions.PlacedFaults.{PlacedFault}
 use Rattle.fault_data.specs.Room.{◌⊕◌}
 use Rattle.fault_data.proofs.Room.{room_both}
-use Rattle.rule_cycles.specs.Told.{InputsTold, DirectivesTold, CyclesTold}
+use Rattle.rule_cycles.specs.SchemaCycles.{InputsTold, DirectivesTold, CyclesTold}
 
 pub both_told : (s : SchemaTree Place) (old middle new : List PlacedFault) → InputsTold s old middle → DirectivesTold s middle new → CyclesTold s old new
 both_told s old middle new a b = record {

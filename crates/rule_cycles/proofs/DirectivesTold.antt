@@ -1,5 +1,5 @@
 -- What is told of directives is what the rules say of them.
-use Rattle.std.proofs.Common.{◌≡◌, ℕ, ◌<◌, ◌⊎◌, not, List, [], ◌∷◌, map, reverse, slice_get, codes, Option, None, Some, refl, sym, ap, subst, ◌∙◌, inl, inr, arith}
+use Rattle.std.proofs.Common.{◌≡◌, ℕ, ◌<◌, ◌⊎◌, not, List, [], ◌∷◌, map, reverse, length, slice_get, codes, Option, None, Some, refl, sym, ap, subst, ◌∙◌, inl, inr, arith}
 use Rattle.std.specs.Prelude.{Contains, count_by, filter_map, nat_lt}
 use Rattle.std.specs.Option.{option_map}
 use Rattle.std.proofs.lemmas.Option.{same_Some, slice_get_within}
@@ -17,16 +17,16 @@ use Rattle.fault_data.specs.in_rule_definitions.Cycles.{Refers, trace_of_way, re
 use Rattle.rule_cycle_search.specs.Paths.{Leads, IsWay, HasNoRepeat}
 use Rattle.fault_data.specs.in_rule_definitions.Cycles as cycles
 use Rattle.schema_types.specs.Distinct.{AreAllDistinct}
-use Rattle.fault_data.specs.in_rule_definitions.Told.{PlacedFault, Told}
+use Rattle.fault_data.specs.in_rule_definitions.PlacedFaults.{PlacedFault, Told}
 use Rattle.rule_cycle_search.proofs.Lists.{only, Contains-first, not_in_nil}
 use Rattle.rule_cycle_search.specs.declared.graph.Graph.{Graph}
 use Rattle.rule_cycle_search.specs.Graph.{RefersTo, is_first, is_other, IsWayBack, IsDeep}
-use Rattle.rule_cycles.specs.Labels.{labels}
-use Rattle.rule_cycles.specs.UseNumbers.{uses_at}
-use Rattle.rule_cycles.specs.UseGraph.{IsUseGraph}
+use Rattle.rule_cycles.specs.Labels.{Labelled, labels, targets}
+use Rattle.rule_cycles.specs.UseNumbers.{Use, uses_at}
+use Rattle.rule_cycles.specs.UseGraph.{IsUseGraph, IsFlat}
 use Rattle.rule_cycles.specs.DirectiveFaults.{directives_of, plain_use, AtHead, use_trace, recursive_directive, deep_directive, TellsDirective, TellsDeepDirective}
 use Rattle.rule_cycles.specs.Telling.{IsOfRoot, TellsRoots}
-use Rattle.rule_cycles.specs.Told.{CyclesFail, AnswersDirective, DirectivesTold}
+use Rattle.rule_cycles.specs.SchemaCycles.{CyclesFail, AnswersDirective, DirectivesTold}
 use Rattle.rule_cycles.proofs.Entries.{number_given}
 use Rattle.rule_cycles.proofs.Transport.{Goes, AreNamed, Leads-named-on, IsWay-named, HasNoRepeat-named, count-named, Leads-numbered, Leads-same, IsWay-same}
 use Rattle.rule_cycles.proofs.InputsTold.{map-reverse}
@@ -159,4 +159,32 @@ module _ (s : SchemaTree Place) (distinct : AreAllDistinct s) (g : Graph) (graph
         let heard : (l : List PlacedFault) × (IsOfRoot (TellsDirective s) (TellsDeepDirective s) g i.0 l × ((f : PlacedFault) → Contains l f → Contains t.added f)) =
         t.full i.0 below (w.0 ∷ w.1.0) (w.0, (w.1.0, (refl, Leads-same Walks (RefersTo g) from_walk i.0 (w.0 ∷ w.1.0) i.0 w.1.1))) in
         said n v.0 i.0 heard.0 t.added v.1 heard.1.0 heard.1.1;
+  }
+
+-- ---- directives that refer to nothing that refers to anything
+
+module _ (s : SchemaTree Place) (distinct : AreAllDistinct s) (flat : IsFlat s) where
+  abbrev Steps : ℕ → ℕ → ℕ → Type 0
+  Steps = Goes (uses_at s) (thing_at s) (number_in s) (Refers (judged s)) (tells_use s) says_use
+
+  leads_nowhere : (i k : ℕ) (path : List ℕ) → i < length s.directives → Leads Steps i (k ∷ path) i → ⊥
+  leads_nowhere i k [] below w =
+      let none : uses_at s i ≡ [] = ap (uses_at s) (sym (w.1.0.1 ∙ w.1.1)) ∙ flat i k below w.1.0.0 in
+      not_in_nil k (subst (λ (rs : Labelled Use). Contains (targets rs) k) none w.1.0.0)
+  leads_nowhere i k (m ∷ path) below w =
+      let none : uses_at s w.0 ≡ [] = ap (uses_at s) (sym w.1.0.1) ∙ flat i k below w.1.0.0 in
+      not_in_nil m (subst (λ (rs : Labelled Use). Contains (targets rs) m) none w.1.1.1.0.0)
+
+  pub flat_told : (old : List PlacedFault) → DirectivesTold s old old
+  flat_told old = record {
+    added = [];
+    is = refl;
+    right = λ f c. not_in_nil f c;
+    full = λ n cycle.
+        let i : (i : ℕ) × (number_in s (ADirective n) ≡ Some i) = use_defined s distinct (ADirective n) cycle.1.1.0 cycle.0 cycle.1.1.1.0 in
+        let v : (v : Placed Place (DirectiveDefinitionTree Place)) × (slice_get s.directives i.0 ≡ Some (n, v)) = number_given n s.directives i.0 i.1 in
+        let w : (m : ℕ) × ((path : List ℕ) × Leads Steps i.0 (m ∷ path) i.0) =
+        Leads-numbered (uses_at s) (thing_at s) (number_in s) (Refers (judged s)) (tells_use s) says_use (use_full s distinct) (use_defined s distinct)
+        (ADirective n) cycle.0 cycle.1.0 (ADirective n) i.0 i.0 i.1 i.1 cycle.1.1 in
+        absurd (leads_nowhere i.0 w.0 w.1.0 (slice_get_within s.directives i.0 (n, v.0) v.1) w.1.1);
   }

@@ -23,8 +23,8 @@ use Rattle.rule_cycles.specs.Labels.{labels}
 use Rattle.rule_cycles.specs.InputGraph.{IsInputGraph}
 use Rattle.rule_cycles.specs.FaultLists.{recursive_input_object_definition, deeply_nested_input_object, TellsInput, TellsDeepInput}
 use Rattle.rule_cycles.specs.Telling.{IsOfRoot, TellsRoots}
-use Rattle.fault_data.specs.in_rule_definitions.Told.{PlacedFault, Told}
-use Rattle.rule_cycles.specs.Told.{CyclesFail, IsInputCycle, AnswersInput, InputsTold}
+use Rattle.fault_data.specs.in_rule_definitions.PlacedFaults.{PlacedFault, Told}
+use Rattle.rule_cycles.specs.SchemaCycles.{CyclesFail, IsInputCycle, AnswersInput, InputsTold}
 use Rattle.rule_cycle_search.proofs.Lists.{only, Contains-first, not_in_nil}
 use Rattle.rule_cycles.proofs.Entries.{number_given, under_at}
 use Rattle.rule_cycles.proofs.Transport.{Goes, AreNamed, Leads-named-on, IsWay-named, HasNoRepeat-named, Leads-numbered, Leads-same, IsWay-same, count_by-none}

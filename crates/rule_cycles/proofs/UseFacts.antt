@@ -1,10 +1,13 @@
 -- What directives and types refer to, piece by piece.
-use Rattle.std.proofs.Common.{◌≡◌, ℕ, ◌≤◌, ◌+◌, ◌-◌, Bool, if◌then◌else◌, List, [], ◌∷◌, ◌++◌, length, Option, None, Some, refl, sym, ap, ◌∙◌, arith, append_assoc}
+use Rattle.std.proofs.Common.{◌≡◌, ℕ, ◌<◌, ◌≤◌, ◌+◌, ◌-◌, ◌⊎◌, Bool, if◌then◌else◌, List, [], ◌∷◌, ◌++◌, length, map, take, get_or, Contains, Option, None, Some, refl, sym, ap, subst, ◌∙◌, arith, append_assoc}
 use Rattle.std.specs.Prelude.{flat_map, option_to_list, option_and_then}
 use Rattle.std.proofs.lemmas.Bool.{le-ltb}
-use Rattle.std.proofs.lemmas.List.{append-nil}
+use Rattle.std.proofs.lemmas.List.{append-nil, map-append}
+use Rattle.std.proofs.lemmas.List.Elements.{Contains-push_cases}
 use Rattle.graphql_names.specs.Placed.{Place}
 use Rattle.schema_types.specs.SchemaTree.{SchemaTree}
+use Rattle.fault_data.proofs.in_rule_definitions.Listing.{mapped_more}
+use Rattle.rule_cycles.specs.Labels.{targets}
 use Rattle.rule_cycles.specs.Numbers.{at_number}
 use Rattle.rule_cycles.specs.UseNumbers.{Use, definition_uses, type_uses, uses_at}
 use Rattle.rule_cycles.specs.DirectiveFaults.{directives_of}
@@ -27,3 +30,9 @@ nothing_past s i h =
     let beyond : length s.types ≤ i - length s.directives = omega (arith, h) in
     ap (λ (b : Bool). if b then at_number (definition_uses s) s.directives i else at_number (type_uses s) s.types (i - length s.directives)) (le-ltb i (length s.directives) past)
     ∙ past_the_last (type_uses s) s.types (i - length s.directives) beyond
+
+-- the target of one more reference
+pub target_more : {X L : Type 0} (view : X → ℕ × L) (xs : List X) (i : ℕ) (x : X) → i < length xs → x ≡ get_or xs i x → (n : ℕ) → Contains (targets (map view (take (i + 1) xs))) n → Contains (targets (map view (take i xs))) n ⊎ ((view x).0 ≡ n)
+target_more view xs i x h e n m =
+    Contains-push_cases (targets (map view (take i xs))) (view x).0 n
+    (subst (λ l. Contains l n) (ap targets (mapped_more view xs i x h e) ∙ map-append (λ r. r.0) (map view (take i xs)) (view x ∷ [])) m)

@@ -8,13 +8,13 @@ use Rattle.fault_data.specs.in_rule_definitions.Diagnostics.{RecursiveInputObjec
 use Rattle.fault_data.specs.in_rule_definitions.Faults.{wrong}
 use Rattle.rule_cycles.specs.Labels.{Labelled, labels}
 use Rattle.rule_cycles.specs.Numbers.{Field, at_number, input_references}
-use Rattle.fault_data.specs.in_rule_definitions.Told.{PlacedFault}
+use Rattle.fault_data.specs.in_rule_definitions.PlacedFaults.{PlacedFault}
 
 module _ (s : SchemaTree Place) where
   abbrev pub input_fields_at : ℕ → Labelled Field
   input_fields_at i = at_number (input_references s.types) s.types i
 
-  -- the fields along a path from the root, from the last to the first
+  -- the fields by which a path from the root refers, from the last to the first
   abbrev pub input_trace : ℕ → List ℕ → List Field
   input_trace root path = reverse (labels input_fields_at root path)
 
@@ -27,7 +27,7 @@ module _ (s : SchemaTree Place) where
   abbrev pub deeply_nested_input_object : ℕ → List PlacedFault
   deeply_nested_input_object root = option_map_or (λ e. wrong e.1.place (DeeplyNestedType e.0 (codes "input object")) ∷ []) (slice_get s.types root) []
 
-  -- l tells that input objects lead from the root back to it, or that its ways are too long
+  -- l tells that fields lead from the root back to it along this path; below, that a path from it is too long
   abbrev pub TellsInput : ℕ → List ℕ → List PlacedFault → Type 0
   TellsInput root path l = l ≡ recursive_input_object_definition root path
 

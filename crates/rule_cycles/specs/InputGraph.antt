@@ -18,7 +18,7 @@ pub record IsInputGraph (s : SchemaTree Place) (g : Graph) : Type 0 where
   pub bound : g.bound ≡ reference_bound
   pub refers : (i : ℕ) → references g i ≡ targets (input_fields_at s i)
 
--- what input objects refer to, and by which fields first
+-- what input objects refer to, and the first field by which each refers to another
 pub record AreInputReferences (s : SchemaTree Place) (r : References (Node InputValueDefinition)) : Type 0 where
   pub graph : IsInputGraph s r.graph
   pub labels : (from to : ℕ) → field_between r from to ≡ label (input_fields_at s from) to

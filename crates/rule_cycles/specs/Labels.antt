@@ -1,4 +1,4 @@
--- Private: leads to `CyclesBreak` and `RecursiveFragmentDefinitionAt`. What is referred to by number, and by what.
+-- Private: leads to `CyclesBreak` and `RecursiveFragmentDefinitionAt`. References by number, each with its label.
 use Rattle.std.specs.Prelude.{ℕ, ◌==◌, List, [], ◌∷◌, ◌++◌, map, find, Option, option_to_list}
 use Rattle.std.specs.Option.{option_map}
 
@@ -9,15 +9,15 @@ abbrev pub targets : {L : Type 0} → Labelled L → List ℕ
 targets rs = map (λ r. r.0) rs
 
 module _ {L : Type 0} where
-  -- the first by which they refer to that number
+  -- the label of the first of these references to that number
   abbrev pub label : Labelled L → ℕ → Option L
   label rs to = option_map (λ r. r.1) (find (λ r. r.0 == to) rs)
 
-  -- what is given of each step of a path, where there is something
+  -- what `by` gives for each step of a path, where it gives something
   abbrev pub along : (ℕ → ℕ → Option L) → ℕ → List ℕ → List L
   along by from [] = []
   along by from (to ∷ rest) = option_to_list (by from to) ++ along by to rest
 
-  -- the first by which each of a path refers to the next
+  -- for each step of a path, the label of the first reference to the next node
   abbrev pub labels : (ℕ → Labelled L) → ℕ → List ℕ → List L
   labels refs from path = along (λ i. label (refs i)) from path

@@ -5,7 +5,7 @@ pub mod Trees
 pub mod Adds
 pub mod Numbers
 pub mod ReferenceViews
-pub mod Told
+pub mod SchemaCycles
 pub mod FaultLists
 pub mod InputGraph
 pub mod UseNumbers

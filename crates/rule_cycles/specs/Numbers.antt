@@ -1,4 +1,4 @@
--- Private: leads to `CyclesBreak`. Types and directive definitions by number, which is their place in the schema's order, and what they refer to by number.
+-- Private: leads to `CyclesBreak`. Types and directive definitions by number, which is their index in the schema, and what they refer to by number.
 use Rattle.std.specs.Prelude.{ℕ, Bool, false, List, [], ◌∷◌, Option, None, Some, slice_get, position, flat_map, bytes_eq, if◌then◌else◌}
 use Rattle.std.specs.Option.{option_map_or}
 use Rattle.std.specs.Map.{keys_of}
@@ -10,15 +10,15 @@ use Rattle.schema_types.specs.SchemaTree.{SchemaType, same_kind}
 use Rattle.schema_types.specs.declared.type_kind.TypeKind.TheVariants as kind
 use Rattle.rule_cycles.specs.Labels.{Labelled}
 
--- the number of what stands first under a name
+-- the index of the first entry with the name
 abbrev pub number_of : {V : Type 0} → List ℕ → Entries V → Option ℕ
 number_of n es = position (bytes_eq n) (keys_of es)
 
--- what f gives of the thing of that number
+-- f of the entry of that number
 abbrev pub at_number : {K V Y : Type 0} → (V → List Y) → List (K × V) → ℕ → List Y
 at_number f es i = option_map_or (λ e. f e.1) (slice_get es i) []
 
--- what f gives of each, in order
+-- f of each entry, in order
 abbrev pub each_value : {K V Y : Type 0} → (V → List Y) → List (K × V) → List Y
 each_value {K} {V} f es = flat_map (λ (e : K × V). f e.1) es
 
@@ -36,7 +36,7 @@ module _ (es : Entries (SchemaType Place)) where
   abbrev pub input_object_number : List ℕ → Option ℕ
   input_object_number n = input_if (number_of n es)
 
-  -- the input object of which a field of this type has to hold one
+  -- the number of the input object that a field of this type must hold: `Name!`
   abbrev pub required_input : TypeTree Place → Option ℕ
   required_input (NamedTree n) = None
   required_input (NonNullNamedTree n) = input_object_number n.it

@@ -20,7 +20,7 @@ field_tree c = node_tree input_value_tree c.node
 abbrev pub input_reference_view : Reference (Node InputValueDefinition) → ℕ × Placed Place (InputValueTree Place)
 input_reference_view r = (r.to, node_tree input_value_tree r.by)
 
--- the references that were there, and after them these
+-- the old references, then these
 abbrev pub AddsInputs : Vec (Reference (Node InputValueDefinition)) Global → Vec (Reference (Node InputValueDefinition)) Global → Labelled Field → Type 0
 AddsInputs old new references = map input_reference_view new.items ≡ map input_reference_view old.items ++ references
 
@@ -28,7 +28,7 @@ AddsInputs old new references = map input_reference_view new.items ≡ map input
 abbrev pub references_of_field : SchemaTree Place → Component InputValueDefinition → Labelled Field
 references_of_field s c = field_references s.types (field_tree c)
 
--- the fields that were there, and after them that one, if there is one
+-- the old fields, then this one, if there is one
 abbrev pub AddsField : Vec (Node InputValueDefinition) Global → Vec (Node InputValueDefinition) Global → Option Field → Type 0
 AddsField old new field = map (node_tree input_value_tree) new.items ≡ map (node_tree input_value_tree) old.items ++ option_to_list field
 

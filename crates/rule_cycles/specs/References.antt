@@ -1,4 +1,4 @@
--- Private: leads to `CyclesBreak` and `RecursiveFragmentDefinitionAt`. References of nodes, kept by their targets.
+-- Private: leads to `CyclesBreak` and `RecursiveFragmentDefinitionAt`. The references of nodes, by their targets.
 use Rattle.std.specs.Prelude.{◌≡◌, ℕ, ◌==◌, ◌+◌, ◌<◌, [], ◌∷◌, ◌++◌, length, Option, Vec, slice_get, option_and_then}
 use Rattle.std.specs.Global.{Global}
 use Rattle.std.specs.Option.{option_map}
@@ -15,11 +15,11 @@ module _ {L : Type 0} where
   abbrev pub label_at : {S : Type 0} → IndexMap ℕ L S → ℕ → Option L
   label_at m to = get (λ a b. a == b) m to
 
-  -- under each number stands the first by which they refer to it
+  -- the map has under each number the label of the first reference to it
   abbrev pub AreFirsts : {S : Type 0} → IndexMap ℕ L S → Labelled L → Type 0
   AreFirsts m rs = (to : ℕ) → label_at m to ≡ label rs to
 
-  -- by what a node first refers to another
+  -- the label of the first reference from one node to another
   abbrev pub between : References L → ℕ → ℕ → Option L
   between r from to = option_and_then (λ m. label_at m to) (slice_get r.firsts.items from)
 
@@ -35,9 +35,9 @@ module _ {L : Type 0} where
     pub kept : (i to : ℕ) → i < length old.firsts.items → between new i to ≡ between old i to
     pub firsts : (to : ℕ) → between new (length old.firsts.items) to ≡ label rs to
 
--- `view`: how a label is seen; `of`: what each node refers to
+-- `view`: what contracts see of a label; `of`: what each node refers to
 module _ {L X : Type 0} (view : L → X) (of : ℕ → Labelled X) where
-  -- what the nodes below a number refer to
+  -- r has what the nodes below a number refer to
   pub record AreNoted (number : ℕ) (r : References L) : Type 0 where
     pub long : length r.graph.references.items ≡ number
     pub noted : length r.firsts.items ≡ number

@@ -6,7 +6,7 @@ use Rattle.rule_cycle_search.specs.declared.found.Found.{Found}
 use Rattle.rule_cycle_search.specs.declared.found.Found.TheVariants.{Nothing, WayBack, Deep}
 use Rattle.rule_cycle_search.specs.Graph.{IsWayBack, IsDeep}
 
--- `Recursive root path l`: l tells that the path leads from the root back to it; `IsTooLong root l`: that its ways are too long
+-- `Recursive root path l`: l tells that the path leads from the root back to it; `IsTooLong root l`: l tells that a path from it is too long
 module _ {F : Type 0} (Recursive : ℕ → List ℕ → List F → Type 0) (IsTooLong : ℕ → List F → Type 0) where
   -- l tells what was found of the root
   abbrev pub TellsFound : ℕ → Found → List F → Type 0
@@ -18,11 +18,11 @@ module _ {F : Type 0} (Recursive : ℕ → List ℕ → List F → Type 0) (IsTo
     abbrev pub IsOfRoot : ℕ → List F → Type 0
     IsOfRoot root l = ((path : List ℕ) × (IsWayBack g root path × Recursive root path l)) ⊎ (IsDeep g root × IsTooLong root l)
 
-    -- nothing is told of a root to which no way leads back, else what is told of it is at the end
+    -- nothing is told and no path leads from the root back to it, or what is told of the root is at the end
     abbrev pub TellsRoot : ℕ → List F → List F → Type 0
     TellsRoot root old new = ((new ≡ old) × ((path : List ℕ) → IsWayBack g root path → ⊥)) ⊎ ((l : List F) × (IsOfRoot root l × (new ≡ old ⊕ l)))
 
-    -- the same of all roots below a number
+    -- the same for all roots below a number: what is told is of some root, and of each root with a cycle something is told
     pub record TellsRoots (number : ℕ) (old new : List F) : Type 0 where
       pub added : List F
       pub is : new ≡ old ⊕ added

@@ -2,8 +2,8 @@
 use Rattle.graphql_names.specs.Placed.{Place}
 use Rattle.schema_types.specs.SchemaTree.{SchemaTree}
 use Rattle.graphql_schema.specs.SchemaOf.{schema_tree}
-use Rattle.rule_cycles.specs.declared.judging.Judging.{Judging}
+use Rattle.rule_cycles.specs.declared.rule_context.RuleContext.{RuleContext}
 
 -- the schema that is judged
-abbrev pub schema_of : Judging → SchemaTree Place
+abbrev pub schema_of : RuleContext → SchemaTree Place
 schema_of judging = schema_tree judging.schema.now

@@ -1,4 +1,4 @@
--- Private: leads to `RecursiveDirectiveDefinitionAt`. What directives and types refer to by number: directives come first, and types behind them (section 3.13).
+-- Private: leads to `RecursiveDirectiveDefinitionAt`. What directives and types refer to by number: directives come first, then types (section 3.13).
 use Rattle.std.specs.Prelude.{ℕ, ◌+◌, ◌-◌, List, [], ◌∷◌, ◌++◌, flat_map, Option, None, Some, length, nat_lt, if◌then◌else◌}
 use Rattle.std.specs.Option.{option_map}
 use Rattle.graphql_names.specs.Placed.{Placed, Place}
@@ -10,7 +10,7 @@ use Rattle.schema_types.specs.Addresses.{applied}
 use Rattle.rule_cycles.specs.Labels.{Labelled}
 use Rattle.rule_cycles.specs.Numbers.{number_of, at_number, each_value}
 
--- the directive by which something refers, or nothing where it is by a type
+-- the applied directive that makes a reference, or None for a reference to a type
 abbrev pub Use : Type 0
 Use = Option (Placed Place (DirectiveTree Place))
 

@@ -27,15 +27,15 @@ use_tree by = option_map (node_tree directive_tree) by
 abbrev pub use_view : Reference (Option (Node Directive)) → ℕ × Use
 use_view r = (r.to, use_tree r.by)
 
--- the references that were there, and after them these
+-- the old references, then these
 abbrev pub AddsUses : Vec (Reference (Option (Node Directive))) Global → Vec (Reference (Option (Node Directive))) Global → Labelled Use → Type 0
 AddsUses old new uses = map use_view new.items ≡ map use_view old.items ++ uses
 
--- the directives that were there, and after them that of the use, if it is by one
+-- the old directives, then that of the use, if it has one
 abbrev pub AddsDirective : Vec (Node Directive) Global → Vec (Node Directive) Global → Option Use → Type 0
 AddsDirective old new found = map (node_tree directive_tree) new.items ≡ map (node_tree directive_tree) old.items ++ option_to_list (option_and_then (λ by. by) found)
 
--- by what a directive or type first refers to another
+-- the label of the first reference from one directive or type to another
 abbrev pub use_between : References (Option (Node Directive)) → ℕ → ℕ → Option Use
 use_between r from to = option_map use_tree (between r from to)
 
@@ -45,7 +45,7 @@ value_uses s c = uses_references s (directives_tree (content c.node).directives)
 abbrev pub field_uses : SchemaTree Place → Component InputValueDefinition → Labelled Use
 field_uses s c = input_uses s (input_value_tree (content c.node))
 
--- of the directives that definitions and extensions give a type; of the type of a number; of the directive definition of a number
+-- the references of the directives that definitions and extensions give a type; below, of the type of a number, of the directive of a number
 abbrev pub applied_uses : SchemaTree Place → DirectiveList → Labelled Use
 applied_uses s directives = uses_references s (applied s (applied_tree directives))
 

@@ -10,7 +10,7 @@ ghost use Rattle.rule_cycles.specs.UseViews.{use_between, AddsDirective};
 ghost use Rattle.rule_cycles.specs.UseGraph.{AreUseReferences};
 ghost use Rattle.rule_cycles.specs.DirectiveFaults.{directives_of, TellsDirective, TellsDeepDirective};
 
-use crate::judging::Judging;
+use crate::rule_context::RuleContext;
 use crate::uses::UseReferences;
 use fault_data::{DiagnosticData, Fault, tell};
 use graphql_names::{Node, SourceSpan};
@@ -24,7 +24,7 @@ fn head(definition: &Node<DirectiveDefinition>) -> Option<SourceSpan>
     SourceSpan::recompose(definition.location(), definition.content().name.location())
 }
 
-/// Adds the directive by which something first refers to another, if it does by one.
+/// Adds the directive that makes the first reference from one definition to another, if a directive makes it.
 fn add_use_between(
     references: &UseReferences,
     from: usize,
@@ -42,7 +42,7 @@ fn add_use_between(
     }
 }
 
-/// The directives along a path from the root, from the last to the first.
+/// The directives by which a path from the root refers, from the last to the first.
 fn use_trace(
     alloc: Global,
     references: &UseReferences,
@@ -64,7 +64,7 @@ fn use_trace(
 /// RecursiveDirectiveDefinition: a directive definition is valid only if it does not lead back to itself (section 3.13).
 /// That of the number does, along the path.
 pub(crate) fn recursive_directive_definition(
-    judging: &Judging<'_>,
+    judging: &RuleContext<'_>,
     references: &UseReferences,
     root: usize,
     path: &[usize],
@@ -92,7 +92,7 @@ pub(crate) fn recursive_directive_definition(
 /// DeeplyNestedType: a directive definition is valid only if no path from it holds more than 32 directives or more than 32
 /// types. A path from that of the number does.
 pub(crate) fn deeply_nested_directive(
-    judging: &Judging<'_>,
+    judging: &RuleContext<'_>,
     root: usize,
     faults: &mut Vec<Fault>,
 ) -> Result<(), AllocError>

@@ -10,13 +10,13 @@ ghost use Rattle.rule_cycles.specs.InputGraph.{AreInputReferences};
 ghost use Rattle.rule_cycles.specs.FaultLists.{TellsInput, TellsDeepInput};
 
 use crate::inputs::InputReferences;
-use crate::judging::Judging;
+use crate::rule_context::RuleContext;
 use fault_data::{DiagnosticData, Fault, tell};
 use graphql_names::Node;
 use std::alloc::{AllocError, Global};
 use tree_directives::InputValueDefinition;
 
-/// Adds the field by which an input object first refers to another, if it does.
+/// Adds the field by which an input object first refers to another, if there is one.
 fn add_field_between(
     references: &InputReferences,
     from: usize,
@@ -34,7 +34,7 @@ fn add_field_between(
     }
 }
 
-/// The fields along a path from the root, from the last to the first.
+/// The fields by which a path from the root refers, from the last to the first.
 fn input_trace(
     alloc: Global,
     references: &InputReferences,
@@ -56,7 +56,7 @@ fn input_trace(
 /// RecursiveInputObjectDefinition: an input object type is valid only if no fields of type `Name!` lead from it back to it
 /// (section 3.10). Such fields lead from that of the number back to it, along the path.
 pub(crate) fn recursive_input_object_definition(
-    judging: &Judging<'_>,
+    judging: &RuleContext<'_>,
     references: &InputReferences,
     root: usize,
     path: &[usize],
@@ -84,7 +84,7 @@ pub(crate) fn recursive_input_object_definition(
 /// DeeplyNestedType: an input object type is valid only if no path from it through fields of type `Name!` holds more than
 /// 32 input objects. A path from that of the number does.
 pub(crate) fn deeply_nested_input_object(
-    judging: &Judging<'_>,
+    judging: &RuleContext<'_>,
     root: usize,
     faults: &mut Vec<Fault>,
 ) -> Result<(), AllocError>

@@ -24,10 +24,10 @@ use tree_literals::Type;
 /// A field by which an input object refers to another, and the number of that one.
 pub(crate) type InputReference = Reference<Node<InputValueDefinition>>;
 
-/// What input objects refer to, and by which field first.
+/// What input objects refer to, and the first field by which each refers to another.
 pub(crate) type InputReferences = References<Node<InputValueDefinition>>;
 
-/// The number of the input object of which a field of this type has to hold one.
+/// The number of the input object that a field of this type must hold: `Name!`.
 fn required_input(schema: &Schema, ty: &Type) -> Option<usize>
     ensures { result ≡ required_input (schema_tree schema.now).types (type_tree ty.now) }
 {

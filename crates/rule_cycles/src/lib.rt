@@ -3,10 +3,11 @@
 //! For the layer above: `check_cycles` tells each input object and each directive definition that leads back to itself,
 //! or that the bound is passed; `rule_definitions` (`specs/Cycles.antt`) says what that means.
 //!
-//! Nodes are numbers, and `rule_cycle_search` finds the ways from each root back to it, in a graph of directives and types.
+//! Nodes are numbers, and `rule_cycle_search` finds the cycles through each root, in a graph of directives and types.
 //! Input objects are roots in `check_inputs.rt`, directives in `check_directives.rt`.
 //!
-//! `References` keeps what nodes refer to and by what first: fragments are nodes too, in `rule_fragments`.
+//! `References` keeps what nodes refer to, and the first reference to each node: fragments are nodes too, in
+//! `rule_fragments`.
 //!
 //! Begin with `check.rt` and `check_inputs.rt`.
 #![tactic(auto)]
@@ -15,15 +16,16 @@ mod check;
 mod check_directives;
 mod check_inputs;
 mod directive_faults;
+mod flat;
 mod input_faults;
 mod inputs;
-mod judging;
 mod numbers;
 mod references;
+mod rule_context;
 mod uses;
 
 pub use check::check_cycles;
 pub use references::{Reference, References};
 
-// Of the crates beneath, for those above.
+// Re-exported from the crates below, for those above.
 pub use graphql_schema::{Schema, laws};

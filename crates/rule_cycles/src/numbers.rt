@@ -1,4 +1,4 @@
-//! Types by number, which is their place in the schema's order.
+//! Types by number, which is their index in the schema.
 ghost use Rattle.std.specs.Prelude.{◌≡◌, length};
 ghost use Rattle.graphql_schema.specs.SchemaOf.{schema_tree};
 ghost use Rattle.rule_cycles.specs.Numbers.{number_of, is_input_object_at, input_object_number};
@@ -7,14 +7,15 @@ ghost use Rattle.rule_cycles.specs.UseNumbers.{type_behind};
 use graphql_names::Name;
 use graphql_schema::Schema;
 
-/// The number of the type of that name, if it is there.
+/// The number of the type of that name, if it is defined.
 pub(crate) fn type_number(schema: &Schema, name: &Name) -> Option<usize>
     ensures { result ≡ number_of name.now.text (schema_tree schema.now).types }
 {
     schema.types.get_index_of(name)
 }
 
-/// The node of the type of that name, if it is there: in the graph of directives and types directives come first.
+/// The node of the type of that name, if it is defined: in the graph of directives and types directives come
+/// first.
 pub(crate) fn type_node(schema: &Schema, name: &Name) -> Option<usize>
     ensures { result ≡ type_behind (schema_tree schema.now) name.now.text }
 {

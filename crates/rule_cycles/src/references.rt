@@ -1,4 +1,4 @@
-//! What nodes refer to, and by what they refer to another first.
+//! What nodes refer to, and the first reference from one node to another.
 ghost use Rattle.std.specs.Prelude.{◌≡◌, ◌++◌, [], ◌∷◌, map, IfOk, OnOk};
 ghost use Rattle.std.specs.Option.{option_copied};
 ghost use Rattle.rule_cycles.specs.Labels.{targets};
@@ -8,24 +8,24 @@ use indexmap::IndexMap;
 use rule_cycle_search::Graph;
 use std::alloc::{AllocError, Global};
 
-/// The most directives, or types, on a way.
+/// The most directives, or types, on a path.
 pub(crate) const BOUND: u32 = 32;
 
-/// A reference to a node by its number, and by what it is one.
+/// A reference to a node by its number, and what makes it (its label).
 #[derive(Drop)]
 pub struct Reference<L> {
     pub to: usize,
     pub by: L,
 }
 
-/// What nodes refer to, and for each node by what it first refers to another.
+/// What nodes refer to, and the label of the first reference from each node to each other.
 #[derive(Drop)]
 pub struct References<L> {
     pub graph: Graph,
     firsts: Vec<IndexMap<usize, L>>,
 }
 
-/// To what these refer.
+/// The targets of these references.
 fn targets_of<L>(alloc: Global, references: &[Reference<L>]) -> Result<Vec<usize>, AllocError>
     ensures { IfOk result (λ r. r.items ≡ targets (map reference_view references.now)) }
 {
@@ -50,7 +50,7 @@ fn note_first<L: Drop>(
     Ok(())
 }
 
-/// By what these refer to each node first.
+/// For each node the label of the first of these references to it.
 fn firsts_of<L: Drop>(
     alloc: Global,
     references: Vec<Reference<L>>,
@@ -65,7 +65,7 @@ fn firsts_of<L: Drop>(
 }
 
 impl<L: Drop> References<L> {
-    /// No node yet, in a graph with so many nodes of the first kind and so many roots, and this bound on ways.
+    /// No node yet, in a graph with so many nodes of the first kind and so many roots, and this bound on paths.
     pub fn new(alloc: Global, first_kind: usize, roots: usize, bound: u32) -> Self
         ensures references { result.graph.references.items ≡ [] }
         ensures firsts { result.firsts.items ≡ [] }
@@ -95,7 +95,7 @@ impl<L: Drop> References<L> {
         Ok(())
     }
 
-    /// By what a node first refers to another, if it does.
+    /// The label of the first reference from one node to another, if there is one.
     pub fn first(&self, from: usize, to: usize) -> Option<&L>
         ensures { option_copied result ≡ between self.now from to }
     {

@@ -22,10 +22,10 @@ use tree_directives::{Directive, DirectiveList, InputValueDefinition};
 use tree_literals::Type;
 use tree_type_members::EnumValueDefinition;
 
-/// A reference to a directive or type by number, and the directive by which it is one: None where it is by a type.
+/// A reference to a directive or type by number, with the applied directive that makes it: None for a reference to a type.
 pub(crate) type UseReference = Reference<Option<Node<Directive>>>;
 
-/// What directives and types refer to, and by what first.
+/// What directives and types refer to, and the first label by which each refers to another.
 pub(crate) type UseReferences = References<Option<Node<Directive>>>;
 
 /// Adds the reference of a directive that is applied, if that is defined.
@@ -63,7 +63,7 @@ fn add_uses(
     Ok(())
 }
 
-/// Adds the reference to a type, if it is there.
+/// Adds the reference to a type, if it is defined.
 fn add_type(
     schema: &Schema,
     ty: &Type,
@@ -148,7 +148,7 @@ fn add_fields(
     Ok(())
 }
 
-/// Adds the references of what a type has: the values of an enum, the fields of an input object.
+/// Adds the references of the parts of a type: the values of an enum, the fields of an input object.
 fn add_parts(
     schema: &Schema,
     ty: &ExtendedType,
@@ -163,7 +163,7 @@ fn add_parts(
     }
 }
 
-/// Adds the references of the type of that number: its directives, and those of what it has.
+/// Adds the references of the type of that number: its directives, and those of its parts.
 fn add_type_uses(
     schema: &Schema,
     number: usize,
@@ -214,7 +214,7 @@ fn add_node_uses(
 }
 
 /// The references of the directive or type of that node.
-fn use_references(
+pub(crate) fn use_references(
     alloc: Global,
     schema: &Schema,
     node: usize,

@@ -18,7 +18,7 @@ use Rattle.schema_types.specs.Looks.{TypeLooks}
 use Rattle.schema_types.specs.Addresses.{Address, TypeAt, InputAt, TypeReferenceAt}
 use Rattle.schema_types.specs.declared.type_kind.TypeKind.{TypeKind}
 use Rattle.schema_types.specs.declared.type_kind.TypeKind.TheVariants.{Scalar, Object, Interface, Union, Enum, InputObject}
-use Rattle.schema_types.proofs.in_values.Decided.{through, pair_decides}
+use Rattle.schema_types.proofs.in_operations.Decided.{through, pair_decides}
 use Rattle.schema_types.specs.in_components.Lists.{is_among}
 use Rattle.rule_cycle_search.proofs.Lists.{Contains-cons, index_found, Contains-first}
 use Rattle.rule_definitions.specs.Diagnostics.{UnsupportedValueType, IntCoercionError, UndefinedVariable, UndefinedEnumValue, UndefinedInputValue, RequiredField}

@@ -13,7 +13,7 @@ use Rattle.tree_literals.specs.TypeTree.{TypeTree, NamedTree, NonNullNamedTree, 
 use Rattle.tree_literals.specs.TypeQueries.{inner_name}
 use Rattle.tree_directives.specs.DirectiveTree.{InputValues, unplaced_input_value}
 use Rattle.schema_types.specs.in_type_members.TypeSystemTree.{FieldDefinitionTree, unplaced_field_definition}
-use Rattle.schema_types.proofs.in_values.Decided.{through}
+use Rattle.schema_types.proofs.in_operations.Decided.{through}
 use Rattle.schema_types.specs.in_components.Names.{Entries, by_bytes, named}
 use Rattle.schema_types.specs.in_components.Given.{plain_given}
 use Rattle.schema_types.proofs.in_components.NamedLookups.{tied}

@@ -1,5 +1,5 @@
--- Definitions that lead back to themselves, and the bound on references (GraphQL, October 2021, sections 3.10 and 3.13).
--- A way is a path of references from a name, as `rule_cycle_search` has it.
+-- Definitions that lead back to themselves, and the bound on references (GraphQL, October 2021, sections 3.10 and 3.13). A way is a path of
+-- references from a name, as `rule_cycle_search` defines it.
 use Rattle.std.specs.Prelude.{◌≡◌, ℕ, ◌<◌, Bool, true, false, List, ◌∷◌, codes, reverse, length, count_by, filter_map, is_some, Option, None, Some, ◌⊎◌}
 use Rattle.graphql_names.specs.Placed.{Placed, Text}
 use Rattle.tree_literals.specs.TypeTree.{NonNullNamedTree}
@@ -15,11 +15,11 @@ use Rattle.rule_definitions.specs.Judged.{Judged, applied_directives}
 use Rattle.rule_definitions.specs.Names.{named_in}
 use Rattle.rule_definitions.specs.Things.{Thing, ADirective, AType}
 
--- the greatest number of directives, or of types, on a way
+-- the greatest number of directives, or of types, on a path
 abbrev pub reference_bound : ℕ
 reference_bound = 32
 
--- a node that refers, with the spot at which it stands
+-- a node that refers, with its spot
 abbrev pub Referring : Type 0 → Type 0
 Referring A = Placed Spot A
 
@@ -42,16 +42,16 @@ module _ (s : Judged) where
 
   -- ---- directives
 
-  -- one of these directives, applied there, refers to its definition, if it has one
+  -- a use of one of these directives there refers to the directive's definition, if there is one
   abbrev pub RefersByUse : Address → List (DirectiveTree (Unit {0})) → Option (Referring (DirectiveTree (Unit {0}))) → Thing → Type 0
   RefersByUse holder ds by to = AtSomeIndex ds (λ i d.
       (by ≡ Some (record { it = d; place = At (DirectiveAt holder i) })) × ((to ≡ ADirective d.name.it) × (is_some (s.directive d.name.it) ≡ true)))
 
-  -- an argument definition or input field refers by its directives, and to its type, if that is there
+  -- an argument definition or input field refers to the directives that it uses, and to its type, if that is defined
   abbrev pub RefersByInput : Address → InputValueTree (Unit {0}) → Option (Referring (DirectiveTree (Unit {0}))) → Thing → Type 0
   RefersByInput at v by to = RefersByUse at (applied_directives v.directives) by to ⊎ ((by ≡ None) × ((to ≡ AType (named_in v.ty.it)) × (is_some (s.type_named (named_in v.ty.it)) ≡ true)))
 
-  -- a directive refers by its arguments and its directives; a type by its directives, its enum values and its input fields
+  -- a directive refers through its arguments and its directives; a type through its directives, its enum values and its input fields
   abbrev pub Refers : Thing → Option (Referring (DirectiveTree (Unit {0}))) → Thing → Type 0
   Refers (ADirective n) by to = Present (s.directive n) (λ d.
       AtSomeIndex d.arguments (λ i v. RefersByInput (ArgumentAt (DirectiveDefinitionAt n) i) v.it by to)
@@ -61,7 +61,7 @@ module _ (s : Judged) where
       ⊎ (Somewhere t.value (λ m v. RefersByUse (ValueAt n m) (applied_directives v.directives) by to)
       ⊎ Somewhere t.input (λ m v. RefersByInput (InputAt n m) v by to)))
 
--- the directives by which a way refers, from the last to the first
+-- the uses of directives by which a path refers, from the last to the first
 abbrev pub trace_of_way : List (Option (Referring (DirectiveTree (Unit {0})))) → List (Referring (DirectiveTree (Unit {0})))
 trace_of_way bys = reverse (filter_map (λ by. by) bys)
 
@@ -79,7 +79,7 @@ module _ (s : Judged) (fault : SchemaFault) where
       Leads (Refers s) (ADirective n) (by ∷ rest) (ADirective n)
       × (fault ≡ wrong (HeadAt n) (RecursiveDirectiveDefinition n (trace_of_way (by ∷ rest)))))))
 
-  -- ---- the bound: not a rule, but what may be answered where it is passed
+  -- ---- the bound: not a rule, but what may be told if it is passed
 
   -- DeeplyNestedType: an input object type is valid only if no path from it through fields of type `Name!` holds more than
   -- 32 input objects
@@ -96,6 +96,6 @@ module _ (s : Judged) (fault : SchemaFault) where
       × (((reference_bound < count_by is_a_directive (ADirective n ∷ rest)) ⊎ (reference_bound < count_by is_a_type (ADirective n ∷ rest)))
       × (fault ≡ wrong (HeadAt n) (DeeplyNestedType n (codes "directive")))))))
 
-  -- ReferenceBound is passed, and this tells it
+  -- ReferenceBound is passed, with this fault
   abbrev pub PassesReferenceBound : Type 0
   PassesReferenceBound = DeeplyNestedInputObjectAt ⊎ DeeplyNestedDirectiveAt

@@ -1,5 +1,5 @@
--- What breaks a rule, with its data: names and words as texts, types, values and directives without places, and what stands
--- for each place that belongs to the data (GraphQL, October 2021, sections 3 and 5).
+-- A broken rule with its data: names and words as texts, types, values and directives without places, and a P for each place that belongs
+-- to the data (GraphQL, October 2021, sections 3 and 5).
 use Rattle.std.specs.Prelude.{ℕ, List, map, Option}
 use Rattle.graphql_names.specs.Placed.{Placed}
 use Rattle.tree_literals.specs.TypeTree.{TypeTree}
@@ -18,7 +18,7 @@ pub record SpreadTree : Type 0 where
   pub fragment_name : List ℕ
   pub directives : Directives (Unit {0})
 
--- a P for each place, an E for the places of a type's extensions
+-- P is the type of the places in the data, E that of the places of a type's extensions
 pub data Diagnostic (P E : Type 0) : Type 0 where
   -- ---- schemas
   QueryRootOperationType : Diagnostic P E
@@ -72,7 +72,7 @@ pub data Diagnostic (P E : Type 0) : Type 0 where
   RecursiveFragmentDefinition : (head_location : P) (name : List ℕ) (trace : List (Placed P SpreadTree)) → Diagnostic P E
   RecursionError : Diagnostic P E
 
--- the same at other places
+-- the same thing at another place
 abbrev pub map_place : {P Q A : Type 0} → (P → Q) → Placed P A → Placed Q A
 map_place f n = record { it = n.it; place = f n.place }
 

@@ -1,4 +1,4 @@
--- A type must have something (GraphQL, October 2021, sections 3.6, 3.7, 3.8, 3.9, 3.10).
+-- A type must not be empty (GraphQL, October 2021, sections 3.6, 3.7, 3.8, 3.9, 3.10).
 use Rattle.std.specs.Prelude.{◌≡◌, ℕ, false, List, ◌⊎◌}
 use Rattle.schema_types.specs.Addresses.{TypeAt}
 use Rattle.schema_types.specs.declared.type_kind.TypeKind.TheVariants as kind

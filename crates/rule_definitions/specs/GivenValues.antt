@@ -1,4 +1,4 @@
--- What is given and what is asked for: the entries of an object, the variables of an operation, the type that a place wants.
+-- What is given and what is expected: the entries of an object, the variables of an operation, the expected type of a value.
 use Rattle.std.specs.Prelude.{ℕ, Bool, true, List, [], ◌∷◌, Contains, find, bytes_eq, Option, option_map, ◌⊎◌}
 use Rattle.std.specs.Option.{option_map_or}
 use Rattle.graphql_names.specs.Placed.{Placed, Text}
@@ -10,7 +10,7 @@ use Rattle.schema_types.specs.in_operations.OperationTree.{VariableDefinitionTre
 use Rattle.schema_types.specs.Looks.{TypeLooks}
 use Rattle.rule_definitions.specs.Judged.{Judged, IsBuiltInScalar, IsCustomScalar}
 
--- a reference to a type, with what stands for its place
+-- an expected type: a reference to a type, and a P for its place
 abbrev pub Wanted : Type 0 → Type 0
 Wanted P = Placed P (TypeTree (Unit {0}))
 
@@ -26,11 +26,11 @@ abbrev pub entry_list : {P : Type 0} → EntryTrees P → List (Text P × Placed
 entry_list no_entries = []
 entry_list (entry_then n p v ts) = (n, record { it = v; place = p }) ∷ entry_list ts
 
--- what stands under a key: the first of each counts
+-- the value under a key: that of the first entry with the key
 abbrev pub entry_named : {P : Type 0} → List ℕ → EntryTrees P → Option (Placed P (ValueTree P))
 entry_named n es = option_map (λ e. e.1) (find (λ e. bytes_eq e.0.it n) (entry_list es))
 
--- there is no such value, or it is the literal null
+-- there is no value, or it is the literal null
 abbrev pub is_absent_or_null : {P : Type 0} → Option (Placed P (ValueTree P)) → Bool
 is_absent_or_null v = option_map_or (λ x. is_null_value x.it) v true
 

@@ -1,4 +1,4 @@
--- Rules on types that implement interfaces (GraphQL, October 2021, sections 3.6 and 3.7; IsValidImplementation stands in 3.6).
+-- Rules on types that implement interfaces (GraphQL, October 2021, sections 3.6 and 3.7; IsValidImplementation is in 3.6).
 use Rattle.std.specs.Prelude.{◌≡◌, ◌≢◌, ℕ, true, false, List, None}
 use Rattle.tree_directives.specs.DirectiveQueries.{is_required_input}
 use Rattle.schema_types.specs.in_type_members.TypeSystemTree.{FieldDefinitionTree}
@@ -14,11 +14,11 @@ use Rattle.rule_definitions.specs.Subtypes.{is_valid_type}
 module _ (s : Judged) where
   -- ---- at some place
 
-  -- type n implements the interface i, which is there
+  -- P holds of some type n and an interface i that n implements and that is defined
   abbrev pub AtImplemented : (List ℕ → TypeLooks → List ℕ → TypeLooks → Type 0) → Type 0
   AtImplemented P = AtType s (λ n t. Among t.implements (λ i. Present (s.type_named i) (λ over. (over.kind ≡ kind.Interface) × P n t i over)))
 
-  -- type n has a field m, and so has an interface i that it implements
+  -- P holds of a field m of some type n and of the field m of an interface i that n implements
   abbrev pub AtImplementation : (List ℕ → List ℕ → List ℕ → FieldDefinitionTree (Unit {0}) → FieldDefinitionTree (Unit {0}) → Type 0) → Type 0
   AtImplementation P = AtImplemented (λ n t i over. Somewhere over.field (λ m wanted. Present (t.field m) (λ field. P n i m wanted field)))
 

@@ -1,5 +1,5 @@
--- What rules read of a schema: look-ups by name, without places and order, and what is built in. Of equal schemas with equal
--- marks it is the same.
+-- What rules read of a schema: lookups by name, without places and order, and what is built in. It is the same for equal schemas with
+-- equal marks.
 use Rattle.std.specs.Prelude.{◌≡◌, ℕ, Bool, true, false, ◌&&◌, List, map, Option, ◌⊎◌}
 use Rattle.graphql_names.specs.Placed.{Place}
 use Rattle.graphql_names.specs.Places.{is_built_in}
@@ -19,7 +19,7 @@ pub record Judged : Type 0 where
   pub definition : PlainRoots
   pub directive : List ℕ → Option (DirectiveDefinitionTree (Unit {0}))
   pub type_named : List ℕ → Option TypeLooks
-  -- the marks
+  -- the marks: what is built in
   pub built_in : Address → Bool
 
 abbrev pub judged_by : Looks → (Address → Bool) → Judged
@@ -32,7 +32,7 @@ judged s = judged_by (looks (plain s)) (is_marked s)
 abbrev pub applied_directives : Directives (Unit {0}) → List (DirectiveTree (Unit {0}))
 applied_directives ds = map (λ d. d.it) ds
 
--- the location at which a type's directives stand
+-- the location of the directives of a type
 abbrev pub type_location : TypeKind → DirectiveLocation
 type_location kind.Scalar = location.Scalar
 type_location kind.Object = location.Object
@@ -43,7 +43,7 @@ type_location kind.InputObject = location.InputObject
 
 -- ---- scalars
 
--- a type of a schema is one that is built in
+-- the type of a schema is a scalar that is built in
 abbrev pub is_built_in_scalar : SchemaType Place → Bool
 is_built_in_scalar t = same_kind t.kind kind.Scalar && is_built_in t.place
 
@@ -54,7 +54,7 @@ module _ (s : Judged) where
   abbrev pub IsCustomScalar : List ℕ → TypeLooks → Type 0
   IsCustomScalar n t = (t.kind ≡ kind.Scalar) × (s.built_in (TypeAt n) ≡ false)
 
-  -- ---- at some place of a schema
+  -- ---- P holds at some place of a schema
 
   -- a type
   abbrev pub AtType : (List ℕ → TypeLooks → Type 0) → Type 0

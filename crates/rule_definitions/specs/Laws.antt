@@ -1,5 +1,5 @@
--- Equal schemas with equal marks: rules read the same of both, so they keep and break the same rules, at the same addresses. And what
--- a type accepts keeps the rules on values.
+-- Laws: what rules read of equal schemas with equal marks is the same, so these schemas keep and break the same rules, at the same
+-- addresses; and a type accepts exactly the values that keep the rules on values.
 use Rattle.std.specs.Prelude.{◌≡◌, ◌↔◌}
 use Rattle.graphql_names.specs.Placed.{Place}
 use Rattle.tree_literals.specs.ValueTree.{ValueTree}
@@ -13,7 +13,7 @@ use Rattle.rule_definitions.specs.Values.{KeepsValueRules}
 use Rattle.rule_definitions.specs.Accepts.{Accepts}
 use Rattle.rule_definitions.specs.Rules.{Breaks, SchemaRules}
 
--- equal, places, origins and order aside, and with the same built in
+-- equal, ignoring places, origins and order, and with the same marks
 pub record AreEqual (a b : SchemaTree Place) : Type 0 where
   pub same : plain a ≡ plain b
   pub marks : (at : Address) → is_marked a at ≡ is_marked b at

@@ -19,7 +19,7 @@ pub mod Values
 pub mod Accepts
 pub mod Uses
 pub mod Rules
-pub mod Told
+pub mod PlacedFaults
 pub mod Room
 pub use Rattle.schema_types.specs.Distinct
 pub mod Kept

@@ -15,12 +15,12 @@ is_reserved _ = false
 abbrev pub scalar_names : List (List ℕ)
 scalar_names = codes "Int" ∷ codes "Float" ∷ codes "String" ∷ codes "Boolean" ∷ codes "ID" ∷ []
 
--- the name inside a reference to a type
+-- the inner name of a reference to a type
 abbrev pub named_in : TypeTree (Unit {0}) → List ℕ
 named_in ty = (inner_name ty).it
 
 module _ {P : Type 0} where
-  -- of an argument that is given, of one that is defined or an input field, of a directive that is applied, of a variable
+  -- the name of a given argument; below, of an argument definition or input field, of an applied directive, of a variable
   abbrev pub argument_name : Placed P (ArgumentTree P) → List ℕ
   argument_name a = a.it.name.it
 

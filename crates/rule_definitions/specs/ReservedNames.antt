@@ -8,7 +8,7 @@ use Rattle.rule_definitions.specs.Judged.{Judged, AtType, AtField, AtValue, AtIn
 use Rattle.rule_definitions.specs.Names.{is_reserved}
 
 module _ (s : Judged) (fault : SchemaFault) where
-  -- what stands there is not built in and has this name, which is reserved
+  -- what is at that address is not built in and has this name, which is reserved; this is the fault
   abbrev pub IsReservedAt : Address → List ℕ → List ℕ → Type 0
   IsReservedAt at name describe =
       (s.built_in at ≡ false) × ((is_reserved name ≡ true) × (fault ≡ told (NameAt at) (ReservedName name describe)))

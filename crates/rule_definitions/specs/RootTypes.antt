@@ -10,6 +10,6 @@ root_type_of roots operation.Query = roots.query
 root_type_of roots operation.Mutation = roots.mutation
 root_type_of roots operation.Subscription = roots.subscription
 
--- the roots that are there, in the order query, mutation, subscription
+-- the roots that are defined, in the order query, mutation, subscription
 abbrev pub root_types_in : PlainRoots → List (OperationType × List ℕ)
 root_types_in roots = flat_map (λ o. map (λ n. (o, n)) (option_to_list (root_type_of roots o))) (operation.Query ∷ operation.Mutation ∷ operation.Subscription ∷ [])

@@ -1,4 +1,4 @@
--- Where something stands that a rule speaks of: at an address of the schema, or inside a value that is written there.
+-- Where something is that a rule is about: at an address of the schema, or inside a value that is written there.
 use Rattle.std.specs.Prelude.{◌≡◌, ℕ, zero, suc, List, [], ◌∷◌, Option, None, Some, option_map, option_and_then, slice_get}
 use Rattle.graphql_names.specs.Placed.{Placed, Place, Text}
 use Rattle.graphql_names.specs.Places.{Recomposes}
@@ -18,9 +18,9 @@ pub data Spot : Type 0 where
   KeyAt : (object : Spot) (index : ℕ) → Spot
   EntryAt : (object : Spot) (index : ℕ) → Spot
 
--- ---- what is written at a place of the schema, with its spots
+-- ---- what is written at a place of the schema, with spots instead of places
 
--- f of each of these and its index
+-- f of each of these and its index, counted from i
 abbrev pub each_from : {X Y : Type 0} → (ℕ → X → Y) → ℕ → List X → List Y
 each_from f i [] = []
 each_from f i (x ∷ xs) = f i x ∷ each_from f (suc i) xs
@@ -54,18 +54,18 @@ spotted_argument at a = record {
   place = At at;
 }
 
--- a directive that is applied there
+-- a directive that is applied at that address
 abbrev pub spotted_directive : Address → DirectiveTree (Unit {0}) → Placed Spot (DirectiveTree Spot)
 spotted_directive at d = record {
   it = record { name = spotted_text (At (NameAt at)) d.name; arguments = each_from (λ i a. spotted_argument (GivenAt at i) a) 0 d.arguments };
   place = At at;
 }
 
--- the directives that are applied there
+-- the directives that are applied at `holder`, in order
 abbrev pub spotted_directives : Address → List (DirectiveTree (Unit {0})) → Directives Spot
 spotted_directives holder ds = each_from (λ i d. spotted_directive (DirectiveAt holder i) d) 0 ds
 
--- ---- where a spot is written
+-- ---- the place of a spot
 
 abbrev pub item_of : {P : Type 0} → ItemTrees P → ℕ → Option (Placed P (ValueTree P))
 item_of no_items i = None
@@ -73,7 +73,7 @@ item_of (item_then p v ts) zero = Some (record { it = v; place = p })
 item_of (item_then p v ts) (suc i) = item_of ts i
 
 module _ (s : SchemaTree Place) where
-  -- the value that is written there
+  -- the value that is written at the spot
   abbrev pub written_at : Spot → Option (Placed Place (ValueTree Place))
   written_at (At (GivenValueAt given)) = option_map (λ a. a.it.value) (given_at s given)
   written_at (ItemAt list i) = option_and_then (λ v. option_and_then (λ ts. item_of ts i) (list_items v.it)) (written_at list)
@@ -85,7 +85,7 @@ module _ (s : SchemaTree Place) where
   spot_place (KeyAt object i) = option_and_then (λ e. e.0.place) (option_and_then (λ v. option_and_then (λ ts. slice_get (entry_list ts) i) (object_entries v.it)) (written_at object))
   spot_place at = option_and_then (λ v. v.place) (written_at at)
 
-  -- what is at the spot is at this place of a text
+  -- the spot is at this place of a text
   abbrev pub SpotIsAt : Spot → Place → Type 0
   SpotIsAt (HeadAt n) place = Recomposes (place_at s (DirectiveDefinitionAt n)) (place_at s (NameAt (DirectiveDefinitionAt n))) place
   SpotIsAt at place = place ≡ spot_place at

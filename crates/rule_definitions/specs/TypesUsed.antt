@@ -1,4 +1,4 @@
--- Rules on the types that fields, input values and unions name (GraphQL, October 2021, sections 3.4.2, 3.6, 3.8, 3.10).
+-- Rules on the types that fields, input values and unions refer to (GraphQL, October 2021, sections 3.4.2, 3.6, 3.8, 3.10).
 use Rattle.std.specs.Prelude.{◌≡◌, ◌≢◌, false, Contains, None}
 use Rattle.tree_literals.specs.TypeTree.{TypeTree}
 use Rattle.schema_types.specs.SchemaTree.{kind_words, is_input_kind, is_output_kind}
@@ -11,7 +11,7 @@ use Rattle.rule_definitions.specs.Judged.{Judged, AtType, AtField, AtInputValue,
 use Rattle.rule_definitions.specs.Names.{scalar_names, named_in}
 
 module _ (s : Judged) (fault : SchemaFault) where
-  -- the type of this reference is not there, and is none of the five
+  -- the inner type of this reference is not defined and is none of the five built-in scalars; this is the fault
   abbrev pub IsUndefinedAt : Address → TypeTree (Unit {0}) → Type 0
   IsUndefinedAt at ty = (s.type_named (named_in ty) ≡ None)
       × ((Contains scalar_names (named_in ty) → ⊥) × (fault ≡ told (TypeNameAt at) (UndefinedDefinition (named_in ty))))

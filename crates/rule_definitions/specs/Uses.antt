@@ -1,4 +1,4 @@
--- Rules on the use of directives and arguments (GraphQL, October 2021, sections 5.4, 5.7 and 5.8.5), of a schema or of a document, as in Values.
+-- Rules on the use of directives and arguments (GraphQL, October 2021, sections 5.4, 5.7 and 5.8.5), in a schema or in a document, as in `Values`.
 use Rattle.std.specs.Prelude.{◌≡◌, ℕ, true, false, List, Contains, None, ◌⊎◌}
 use Rattle.graphql_names.specs.Placed.{Placed}
 use Rattle.tree_literals.specs.TypeTree.{unplaced_type}
@@ -21,16 +21,16 @@ use Rattle.rule_definitions.specs.VariableUsage.{IsVariableUsageAllowed}
 pub record Taker (P : Type 0) : Type 0 where
   pub place : P
   pub given : Arguments P
-  -- where the arguments are defined, and how
+  -- where the arguments are defined, and their definitions
   pub holder : Address
   pub definitions : InputValues (Unit {0})
-  -- what tells of an argument that is not defined, and how that and each argument are called
+  -- the place that is told of an argument that is not defined, the coordinate of what takes arguments, and those of the arguments
   pub definition_location : P
   pub coordinate : Coordinate
   pub argument_coordinate : List ℕ → Coordinate
 
 module _ {P : Type 0} where
-  -- the use of a directive as what takes arguments
+  -- the use of a directive as a `Taker`
   abbrev pub directive_taker : Placed P (DirectiveTree P) → InputValues (Unit {0}) → Taker P
   directive_taker d definitions = record {
     place = d.place;
@@ -50,13 +50,13 @@ module _ {P E : Type 0} (at : Address → P) (s : Judged) (variables : Variables
   UniqueArgumentAt given fault = Repeats argument_name given (λ i first j later.
       fault ≡ wrong later.place (UniqueArgument (argument_name later) first.place later.place))
 
-  -- rules on what is given, defined or not
+  -- a rule on given arguments, whether they are defined or not, is broken, with this fault
   abbrev pub GivenBreaks : Arguments P → FaultAt P E → Type 0
   GivenBreaks given fault = UniqueArgumentAt given fault ⊎ AtSomeIndex given (λ i a.
       UniqueInputValueIn a.it.value.it fault ⊎ UndefinedVariableIn variables a.it.value.place a.it.value.it fault)
 
   module _ (taker : Taker P) (fault : FaultAt P E) where
-    -- the first that is given of a name, with its definition and the address of that
+    -- Q holds of some given argument, the first of its name, with its definition and the address of the definition
     abbrev pub AtArgumentGiven : (Address → InputValueTree (Unit {0}) → Placed P (ArgumentTree P) → Type 0) → Type 0
     AtArgumentGiven Q = AtSomeIndex taker.given (λ j a. IsFirst argument_name taker.given (argument_name a) j
         × FirstNamed input_name taker.definitions (argument_name a) (λ i v. Q (ArgumentAt taker.holder i) v.it a))
@@ -80,12 +80,12 @@ module _ {P E : Type 0} (at : Address → P) (s : Judged) (variables : Variables
         (IsVariableUsageAllowed x.it v → ⊥)
         × (fault ≡ wrong a.place (DisallowedVariableUsage n.it (unplaced_type x.it.ty.it) x.place (argument_name a) v.ty.it a.place)))))
 
-    -- the rules on values, of what is given for an argument against its type
+    -- a rule on values is broken by what is given for an argument, judged against the argument's type, with this fault
     abbrev pub ArgumentValueBreaks : Type 0
     ArgumentValueBreaks = AtArgumentGiven (λ defined v a.
         TypeBreaks at s variables (record { it = v.ty.it; place = at (TypeReferenceAt defined) }) a.it.value.place a.it.value.it fault)
 
-    -- rules on what is given by what is defined
+    -- a rule on given arguments, judged by the definitions, is broken, with this fault
     abbrev pub TakerBreaks : Type 0
     TakerBreaks = UndefinedArgumentAt ⊎ (RequiredArgumentAt ⊎ (DisallowedVariableUsageAt ⊎ ArgumentValueBreaks))
 
@@ -106,11 +106,11 @@ module _ {P E : Type 0} (at : Address → P) (s : Judged) (variables : Variables
   UniqueDirectiveAt ds fault = Repeats directive_name ds (λ i first j later. Present (s.directive (directive_name later)) (λ defined.
       (defined.repeatable ≡ false) × (fault ≡ wrong later.place (UniqueDirective (directive_name later) first.place))))
 
-  -- a rule on one use fails so
+  -- a rule on one use is broken, with this fault
   abbrev pub UseBreaks : DirectiveLocation → Placed P (DirectiveTree P) → FaultAt P E → Type 0
   UseBreaks location d fault = UndefinedDirectiveAt d fault ⊎ (UnsupportedLocationAt location d fault
       ⊎ (GivenBreaks d.it.arguments fault ⊎ Present (s.directive (directive_name d)) (λ defined. TakerBreaks (directive_taker d defined.arguments) fault)))
 
-  -- a rule on the directives that are used at one place fails so
+  -- a rule on the directives that are used at one place is broken, with this fault
   abbrev pub UsesBreak : DirectiveLocation → Directives P → FaultAt P E → Type 0
   UsesBreak location ds fault = UniqueDirectiveAt ds fault ⊎ AtSomeIndex ds (λ i d. UseBreaks location d fault)

@@ -1,5 +1,5 @@
--- Rules on values (GraphQL, October 2021, sections 3.5 to 3.10, 5.6 and 5.8.3), of a schema or of a document: a value has a P for
--- each place in it, `at` gives one for each address of the schema, and variables are those of an operation, or none.
+-- Rules on values (GraphQL, October 2021, sections 3.5 to 3.10, 5.6 and 5.8.3), in a schema or in a document: a value has a P for each
+-- place in it, `at` gives one for each address of the schema, and variables are those of an operation, or none.
 use Rattle.std.specs.Prelude.{◌≡◌, ℕ, ◌<◌, true, false, List, [], ◌∷◌, codes, Contains, find, bytes_eq, None, Some, FitsSigned, ◌⊎◌}
 use Rattle.std.proofs.Common.{w32}
 use Rattle.graphql_names.specs.Placed.{Placed}
@@ -20,7 +20,7 @@ use Rattle.rule_definitions.specs.Faults.{FaultAt, wrong}
 use Rattle.rule_definitions.specs.Judged.{Judged, IsBuiltInScalar, IsCustomScalar}
 use Rattle.rule_definitions.specs.Names.{defined_name}
 
--- the type of the items of such a list
+-- the expected type of the items of a list
 abbrev pub wanted_item : {P : Type 0} → Wanted P → Wanted P
 wanted_item ty = record { it = item_type_of ty.it; place = ty.place }
 
@@ -59,10 +59,10 @@ module _ {P E : Type 0} (variables : Variables P) where
     UndefinedVariableInEntries no_entries fault = ⊥
     UndefinedVariableInEntries (entry_then n p v es) fault = UndefinedVariableIn p v fault ⊎ UndefinedVariableInEntries es fault
 
--- ---- one value against the type it is given for, what is inside a list or an object aside
+-- ---- one value against the type it is given for, ignoring what is inside a list or an object
 
 module _ {P : Type 0} (s : Judged) (variables : Variables P) (ty : Wanted P) (t : TypeLooks) where
-  -- the form of the value fits the type of which t stands inside all brackets
+  -- the form of the value fits the type, whose inner type is t
   abbrev pub FitsForm : ValueTree P → Type 0
   FitsForm NullTree = has_mark ty.it ≡ false
   FitsForm (VariableTree v) = (x : Placed P (VariableDefinitionTree P))
@@ -112,7 +112,8 @@ module _ {P E : Type 0} (at : Address → P) (s : Judged) (variables : Variables
   -- ---- a whole value
 
   abbrev mutual
-    -- a rule fails of the value, of an item of it against the type of items, or of what it gives a field against the field's type
+    -- a rule is broken by the value, by an item of a list that fits, against the type of items, or by the value of an input object's field,
+    -- against the field's type
     pub TypeBreaks : Wanted P → P → ValueTree P → FaultAt P E → Type 0
     TypeBreaks ty p (ListTree ts) fault = FormBreaks ty p (ListTree ts) fault
         ⊎ (Present (s.type_named (wanted_name ty)) (λ t. FitsForm s variables ty t (ListTree ts)) × TypeBreaksItems (wanted_item ty) ts fault)
@@ -124,17 +125,17 @@ module _ {P E : Type 0} (at : Address → P) (s : Judged) (variables : Variables
     TypeBreaksItems ty no_items fault = ⊥
     TypeBreaksItems ty (item_then p v ts) fault = TypeBreaks ty p v fault ⊎ TypeBreaksItems ty ts fault
 
-    -- behind entries with these keys: the first of each key counts
+    -- the entries come after entries with the keys `before`: the first entry of each key counts
     pub TypeBreaksEntries : List ℕ → TypeLooks → List (List ℕ) → EntryTrees P → FaultAt P E → Type 0
     TypeBreaksEntries n t before no_entries fault = ⊥
     TypeBreaksEntries n t before (entry_then k p v es) fault =
         ((Contains before k.it → ⊥) × Present (t.input k.it) (λ f. TypeBreaks (record { it = f.ty.it; place = at (TypeReferenceAt (InputAt n k.it)) }) p v fault))
         ⊎ TypeBreaksEntries n t (k.it ∷ before) es fault
 
-  -- a rule on values fails so
+  -- a rule on values is broken, with this fault
   abbrev pub ValueBreaks : Wanted P → P → ValueTree P → FaultAt P E → Type 0
   ValueBreaks ty p v fault = TypeBreaks ty p v fault ⊎ UndefinedVariableIn variables p v fault
 
--- no rule on values fails: the type accepts the value, which `Accepts` says by cases on it
+-- no rule on values is broken: the type accepts the value, which `Accepts` says by cases on the value
 abbrev pub KeepsValueRules : {P : Type 0} → (Address → P) → Judged → Variables P → Wanted P → P → ValueTree P → Type 0
 KeepsValueRules {P} at s variables ty p v = (fault : FaultAt P (List P)) → ValueBreaks at s variables ty p v fault → ⊥

@@ -7,8 +7,7 @@ use Rattle.schema_types.specs.in_operations.OperationTree.{VariableDefinitionTre
 
 module _ {P : Type 0} where
   -- Laxer: a default that is null counts as one
-  -- a variable may stand where the argument is asked for: a nullable one fits a non-null place only
-  -- with a default on either side
+  -- a variable may be used for an argument: a nullable variable fits a non-null argument only with a default on either side
   abbrev pub IsVariableUsageAllowed : VariableDefinitionTree P → InputValueTree (Unit {0}) → Type 0
   IsVariableUsageAllowed x v =
       AreTypesCompatible (unplaced_type x.ty.it) v.ty.it

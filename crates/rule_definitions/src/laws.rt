@@ -2,8 +2,8 @@
 
 ghost use Rattle.rule_definitions.specs.Laws.{ReadTheSame, SameBreaches, SameVerdict, AcceptsWhereRulesHold};
 
-/// Schemas that are equal, with the same built in, break the same rules at the same addresses, whatever the rules are:
-/// rules read the same of both.
+/// Equal schemas with the same things built in break the same rules at the same addresses, whatever the rules are: what
+/// rules read of both is the same.
 pub fn equal_schemas_same_breaches()
     ensures read { ReadTheSame }
     ensures breaches { SameBreaches }

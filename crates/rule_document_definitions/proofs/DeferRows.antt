@@ -4,8 +4,8 @@ use Rattle.tree_literals.specs.ValueTree.{ValueTree, StringTree, VariableTree}
 use Rattle.tree_directives.specs.DirectiveTree.{Arguments, Directives}
 use Rattle.tree_directives.specs.OperationQueries.{default_root_name}
 use Rattle.tree_directives.specs.declared.operation_type.OperationType.TheVariants as operation
-use Rattle.fault_document_data.specs.DocumentBreaches.{DeferLabelMustNotBeVariable, DuplicateDeferLabel, DeferOnRootMutationOrSubscriptionField, DeferInSubscriptionMustBeConditional}
-use Rattle.document_meaning.specs.MeantTree.{MeantSelection, MeantField, MeantOperation, set_on}
+use Rattle.fault_document_errors.specs.DocumentBreaches.{DeferLabelMustNotBeVariable, DuplicateDeferLabel, DeferOnRootMutationOrSubscriptionField, DeferInSubscriptionMustBeConditional}
+use Rattle.spec_document.specs.MeantTree.{MeantSelection, MeantField, MeantOperation, set_on}
 use Rattle.rule_definitions.specs.Words.{AtSomeIndex}
 use Rattle.rule_definitions.proofs.Lists.{only}
 use Rattle.rule_document_definitions.specs.DocumentFaults.{Broken, broken}

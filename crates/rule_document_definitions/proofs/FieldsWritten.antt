@@ -1,7 +1,7 @@
 -- Fields that are written in a set, and in the sets to which spreads lead.
 use Rattle.std.specs.Prelude.{◌≡◌, ℕ, List, flat_map, None, Some, option_map, option_to_list, Contains}
-use Rattle.document_meaning.specs.in_components.Names.{Entries}
-use Rattle.document_meaning.specs.MeantTree.{MeantSet, MeantFragment, MeantDocument}
+use Rattle.spec_document.specs.in_components.Names.{Entries}
+use Rattle.spec_document.specs.MeantTree.{MeantSet, MeantFragment, MeantDocument}
 use Rattle.rule_definitions.specs.in_schema_types.Addresses.{under}
 use Rattle.rule_document_definitions.specs.Selected.{Position, InOperation, StandingField, field_there}
 use Rattle.rule_document_definitions.specs.Reached.{Closed, IsFieldOf}

@@ -2,7 +2,7 @@
 use Rattle.std.proofs.Common.{◌≡◌, ℕ, false, List, [], ◌∷◌, codes, bytes_eq, is_some, None, Some, Contains, refl, sym, ap, subst, inl, inr, true≢false, ◌∙◌, arith}
 use Rattle.std.proofs.lemmas.Option.{same_Some}
 use Rattle.graphql_names.specs.Placed.{Placed}
-use Rattle.document_meaning.specs.MeantTree.{MeantOperation, MeantFragment}
+use Rattle.spec_document.specs.MeantTree.{MeantOperation, MeantFragment}
 use Rattle.rule_definitions.specs.Words.{Present}
 use Rattle.rule_definitions.specs.Diagnostics.{SpreadTree, UndefinedFragment, UnusedFragment, RecursiveFragmentDefinition, InvalidFragmentTarget, InvalidFragmentSpread}
 use Rattle.rule_definitions.specs.Faults.{FaultAt, wrong}

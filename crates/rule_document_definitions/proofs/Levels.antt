@@ -6,7 +6,7 @@ use Rattle.std.proofs.lemmas.Option.{same_Some}
 use Rattle.std.proofs.lemmas.List.Elements.{Contains-append_left, Contains-append_right}
 use Rattle.rule_definitions.specs.Words.{Present}
 use Rattle.rule_definitions.proofs.Lists.{not_in_nil, given_in}
-use Rattle.document_meaning.specs.MeantTree.{MeantOperation, MeantDocument}
+use Rattle.spec_document.specs.MeantTree.{MeantOperation, MeantDocument}
 use Rattle.rule_document_definitions.specs.Selected.{Standing, standing_in, in_inline, spread_name, as_field, fragment_named, own, held}
 use Rattle.rule_document_definitions.specs.Reached.{Closed, first, next, InFragmentOf, LeadsInto, Reached, AtRoot}
 

@@ -2,7 +2,7 @@
 -- bound, and the bound on paths where it does; and fragments that spread one another are on one way.
 use Rattle.std.proofs.Common.{◌≡◌, ℕ, ◌<◌, ◌≤◌, zero, suc, List, [], ◌∷◌, length, codes, refl, sym, ap, subst, ◌∙◌, None, Some, Contains, inl, inr, is_some, true≢false, arith}
 use Rattle.std.proofs.lemmas.Option.{same_Some}
-use Rattle.document_meaning.specs.MeantTree.{MeantSelection, set_on, MeantOperation, MeantFragment, MeantDocument}
+use Rattle.spec_document.specs.MeantTree.{MeantSelection, set_on, MeantOperation, MeantFragment, MeantDocument}
 use Rattle.graphql_names.specs.Placed.{Placed}
 use Rattle.rule_definitions.specs.Diagnostics.{SpreadTree}
 use Rattle.rule_cycle_search.specs.Paths.{IsWay, HasNoRepeat}

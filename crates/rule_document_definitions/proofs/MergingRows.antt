@@ -9,8 +9,8 @@ use Rattle.tree_directives.specs.DirectiveTree.{Arguments}
 use Rattle.rule_definitions.specs.in_schema_types.SchemaTree.{same_kind}
 use Rattle.rule_definitions.specs.in_schema_types.Looks.{TypeLooks}
 use Rattle.rule_definitions.specs.in_schema_types.declared.type_kind.TypeKind.TheVariants as kind
-use Rattle.fault_document_data.specs.DocumentBreaches.{ConflictingFieldName, ConflictingFieldArgument, ConflictingFieldType}
-use Rattle.document_meaning.specs.MeantTree.{Definition, MeantSelection, MeantField, MeantOperation}
+use Rattle.fault_document_errors.specs.DocumentBreaches.{ConflictingFieldName, ConflictingFieldArgument, ConflictingFieldType}
+use Rattle.spec_document.specs.MeantTree.{Definition, MeantSelection, MeantField, MeantOperation}
 use Rattle.rule_definitions.proofs.Lists.{Contains-first, given_in}
 use Rattle.rule_document_definitions.specs.DocumentFaults.{broken}
 use Rattle.rule_document_definitions.specs.Selected.{Standing, StandingField, as_field, own}

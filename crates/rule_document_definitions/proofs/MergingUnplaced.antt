@@ -5,8 +5,8 @@ use Rattle.graphql_names.specs.Placed.{Placed, Text, unplaced_text}
 use Rattle.tree_literals.specs.ValueTree.{ValueTree, ItemTrees, EntryTrees, NullTree, EnumTree, VariableTree, StringTree, FloatTree, IntTree, BooleanTree, ListTree, ObjectTree, no_items, item_then, no_entries, entry_then, unplaced_value, unplaced_items, unplaced_entries}
 use Rattle.tree_directives.specs.DirectiveTree.{ArgumentTree, Arguments, unplaced_arguments}
 use Rattle.tree_directives.specs.DirectiveQueries.{argument_has_name}
-use Rattle.document_meaning.specs.MeantTree.{MeantOperation, MeantDocument}
-use Rattle.document_meaning.specs.Unplaced.{unplaced_set, unplaced_operation, unplaced_document}
+use Rattle.spec_document.specs.MeantTree.{MeantOperation, MeantDocument}
+use Rattle.spec_document.specs.Unplaced.{unplaced_set, unplaced_operation, unplaced_document}
 use Rattle.rule_definitions.specs.Judged.{Judged}
 use Rattle.rule_document_definitions.specs.Selected.{InOperation, StandingField, operation_name, response_key}
 use Rattle.rule_document_definitions.specs.Reached.{IsFieldOf}

@@ -4,8 +4,8 @@ use Rattle.std.proofs.Common.{◌≡◌, ℕ, Bool, true, false, cond, List, [],
 use Rattle.std.specs.Option.{option_map}
 use Rattle.schema_coordinates.specs.Coordinate.{OfAttribute}
 use Rattle.tree_directives.specs.declared.operation_type.OperationType.TheVariants as operation
-use Rattle.document_meaning.specs.MeantTree.{MeantSelection, MeantOperation, MeantFragment, MeantDocument, set_on}
-use Rattle.document_meaning.specs.Unplaced.{unplaced_fragment, unplaced_document}
+use Rattle.spec_document.specs.MeantTree.{MeantSelection, MeantOperation, MeantFragment, MeantDocument, set_on}
+use Rattle.spec_document.specs.Unplaced.{unplaced_fragment, unplaced_document}
 use Rattle.rule_definitions.specs.Diagnostics.{MissingSubselection, UndefinedFragment, UnusedFragment}
 use Rattle.rule_definitions.specs.Faults.{FaultAt, wrong}
 use Rattle.rule_definitions.proofs.Lists.{Contains-cons, only}

@@ -1,8 +1,8 @@
 -- What lies below contents, and what sets select, does so without places, and the other way.
 use Rattle.std.proofs.Common.{◌≡◌, List, map, None, refl, sym, ap, subst, ◌∙◌}
 use Rattle.tree_directives.specs.DirectiveTree.{Arguments, unplaced_arguments}
-use Rattle.document_meaning.specs.MeantTree.{MeantSet, MeantOperation, MeantDocument}
-use Rattle.document_meaning.specs.Unplaced.{unplaced_set, unplaced_document}
+use Rattle.spec_document.specs.MeantTree.{MeantSet, MeantOperation, MeantDocument}
+use Rattle.spec_document.specs.Unplaced.{unplaced_set, unplaced_document}
 use Rattle.rule_document_definitions.specs.Selected.{InOperation, StandingField}
 use Rattle.rule_document_definitions.specs.Reached.{IsFieldOf}
 use Rattle.rule_document_definitions.specs.SameValues.{plain_given, SameGiven, SameArguments}

@@ -1,7 +1,7 @@
 -- What an operation reaches is one where its position is, if fragments stand under their own names.
 use Rattle.std.proofs.Common.{◌≡◌, ℕ, ◌<◌, suc, List, refl, sym, ap, subst, ◌∙◌, inl, inr, Option, None, Some, Contains, is_some, true≢false, arith}
 use Rattle.std.proofs.lemmas.Option.{same_Some}
-use Rattle.document_meaning.specs.MeantTree.{MeantSelection, MeantField, MeantSpread, MeantInline, MeantSet, meant_set, MeantSelections, no_meant, meant_then, MeantOperation, MeantFragment, MeantDocument}
+use Rattle.spec_document.specs.MeantTree.{MeantSelection, MeantField, MeantSpread, MeantInline, MeantSet, meant_set, MeantSelections, no_meant, meant_then, MeantOperation, MeantFragment, MeantDocument}
 use Rattle.rule_definitions.specs.Words.{Present}
 use Rattle.rule_definitions.proofs.Lists.{not_in_nil, Contains-cons}
 use Rattle.rule_document_definitions.specs.Selected.{Position, InOperation, InFragment, SelectionAt, Standing, StandingField, stand, standing_in, in_inline, field_there, as_field, fragment_named, operation_name}

@@ -5,8 +5,8 @@ use Rattle.std.specs.Prelude.{Option, Some, None, flat_map, option_map}
 use Rattle.std.proofs.lemmas.List.{map-append}
 use Rattle.graphql_names.specs.Placed.{Text, unplaced_text}
 use Rattle.tree_directives.specs.DirectiveTree.{Arguments, unplaced_arguments}
-use Rattle.document_meaning.specs.MeantTree.{Definition, MeantSelection, MeantField, MeantSpread, MeantInline, MeantSet, meant_set, MeantSelections, no_meant, meant_then, MeantOperation, MeantFragment, MeantDocument}
-use Rattle.document_meaning.specs.Unplaced.{unplaced_meant, unplaced_set, unplaced_members}
+use Rattle.spec_document.specs.MeantTree.{Definition, MeantSelection, MeantField, MeantSpread, MeantInline, MeantSet, meant_set, MeantSelections, no_meant, meant_then, MeantOperation, MeantFragment, MeantDocument}
+use Rattle.spec_document.specs.Unplaced.{unplaced_meant, unplaced_set, unplaced_members}
 use Rattle.tree_operations.specs.SelectionTree.{FieldHead, unplaced_head}
 use Rattle.rule_definitions.specs.Judged.{Judged}
 use Rattle.rule_definitions.specs.in_schema_types.Addresses.{under}

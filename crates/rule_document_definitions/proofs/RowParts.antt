@@ -13,7 +13,7 @@ use Rattle.tree_operations.specs.OperationTree.{VariableDefinitionTree}
 use Rattle.rule_definitions.specs.in_schema_types.Looks.{TypeLooks}
 use Rattle.rule_definitions.specs.in_schema_types.declared.type_kind.TypeKind.{TypeKind}
 use Rattle.rule_definitions.specs.in_schema_types.declared.type_kind.TypeKind.TheVariants as kind
-use Rattle.document_meaning.specs.MeantTree.{Definition, MeantSelection, MeantField, MeantSpread, MeantInline, MeantSet, meant_set, no_meant, set_on, MeantOperation, MeantFragment, MeantDocument}
+use Rattle.spec_document.specs.MeantTree.{Definition, MeantSelection, MeantField, MeantSpread, MeantInline, MeantSet, meant_set, no_meant, set_on, MeantOperation, MeantFragment, MeantDocument}
 use Rattle.rule_definitions.specs.Judged.{Judged}
 use Rattle.rule_document_definitions.specs.Places.{Places}
 use Rattle.rule_document_definitions.specs.Selected.{Position, Standing, StandingField, InOperation, SelectionAt}

@@ -3,7 +3,7 @@ use Rattle.std.proofs.Common.{◌≡◌, ℕ, zero, suc, List, [], ◌∷◌, No
 use Rattle.std.proofs.lemmas.Option.{same_Some}
 use Rattle.rule_definitions.specs.Words.{Present, AtSomeIndex, IsFirst, Repeats}
 use Rattle.rule_definitions.proofs.Lists.{not_in_nil, Contains-cons}
-use Rattle.document_meaning.specs.MeantTree.{MeantOperation, MeantFragment, MeantDocument}
+use Rattle.spec_document.specs.MeantTree.{MeantOperation, MeantFragment, MeantDocument}
 use Rattle.rule_document_definitions.specs.Selected.{Standing, own, spread_name}
 use Rattle.rule_document_definitions.specs.Reached.{AtRoot, AtReached, AtReachedFragment}
 use Rattle.rule_document_definitions.proofs.Levels.{level, up_to, in_selection, in_fragment_of, reached_in, root_in}

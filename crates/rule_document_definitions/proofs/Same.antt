@@ -1,6 +1,6 @@
 -- Equal documents under equal schemas with equal marks: what does not read places is said of the same things.
 use Rattle.std.proofs.Common.{◌≡◌, ◌↔◌, sym, subst}
-use Rattle.document_meaning.specs.Unplaced.{unplaced_operation, unplaced_document}
+use Rattle.spec_document.specs.Unplaced.{unplaced_operation, unplaced_document}
 use Rattle.rule_definitions.proofs.Same.{read_the_same}
 use Rattle.rule_document_definitions.specs.Verdict.{DocumentRules, Merging, WithinBounds, FieldSetRules, StandaloneRules}
 use Rattle.rule_document_definitions.specs.Laws.{MergesByContents, SameDocumentVerdict, SameBounds, SameFieldSetVerdict, SameVerdictAlone}

@@ -2,7 +2,7 @@
 use Rattle.std.proofs.Common.{ℕ, List, [], ◌∷◌, codes, None, refl, sym, inl, inr, true≢false, arith}
 use Rattle.tree_literals.specs.ValueTree.{ValueTree, EntryTrees, IntTree, VariableTree, ObjectTree, no_entries, entry_then}
 use Rattle.schema_coordinates.specs.Coordinate.{OfAttribute}
-use Rattle.document_meaning.specs.MeantTree.{MeantOperation}
+use Rattle.spec_document.specs.MeantTree.{MeantOperation}
 use Rattle.rule_definitions.specs.Diagnostics.{MissingSubselection, UndefinedDirective, UndefinedArgument, UniqueInputValue, UndefinedVariable}
 use Rattle.rule_definitions.specs.Faults.{FaultAt, wrong}
 use Rattle.rule_definitions.specs.GivenValues.{entry_list}

@@ -1,7 +1,7 @@
 -- What an operation reaches stands in it, or in a fragment to whose name spreads lead from it. So it is decided whether something
 -- decided is so of a selection that is reached.
 use Rattle.std.proofs.Common.{◌≡◌, ◌⊎◌, ℕ, List, map, Some, Contains, inl, inr}
-use Rattle.document_meaning.specs.MeantTree.{MeantOperation, MeantFragment, MeantDocument}
+use Rattle.spec_document.specs.MeantTree.{MeantOperation, MeantFragment, MeantDocument}
 use Rattle.rule_definitions.specs.Words.{Present}
 use Rattle.rule_definitions.proofs.Lookups.{under_given}
 use Rattle.rule_document_definitions.specs.Selected.{InOperation, InFragment, Standing, all_in, spread_name, fragment_named, operation_name, held}

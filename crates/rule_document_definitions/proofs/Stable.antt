@@ -7,7 +7,7 @@ use Rattle.graphql_names.specs.Placed.{Text, Placed}
 use Rattle.tree_literals.specs.TypeTree.{TypeTree, NamedTree, NonNullNamedTree}
 use Rattle.tree_literals.specs.TypeTree as types
 use Rattle.tree_literals.specs.ValueTree.{ItemTrees, EntryTrees, NullTree, EnumTree, VariableTree, StringTree, FloatTree, IntTree, BooleanTree, ListTree, ObjectTree, no_items, item_then, no_entries, entry_then}
-use Rattle.document_meaning.specs.MeantTree.{MeantOperation, MeantDocument}
+use Rattle.spec_document.specs.MeantTree.{MeantOperation, MeantDocument}
 use Rattle.rule_definitions.specs.Words.{Present}
 use Rattle.rule_definitions.specs.Judged.{Judged}
 use Rattle.rule_definitions.specs.Names.{named_in}

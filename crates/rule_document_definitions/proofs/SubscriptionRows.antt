@@ -3,8 +3,8 @@ use Rattle.std.proofs.Common.{◌≡◌, ℕ, ◌<◌, ◌==◌, zero, suc, List
 use Rattle.std.proofs.lemmas.Option.{same_Some}
 use Rattle.tree_directives.specs.DirectiveTree.{Directives}
 use Rattle.tree_directives.specs.declared.operation_type.OperationType.TheVariants as operation
-use Rattle.fault_document_data.specs.DocumentBreaches.{SubscriptionUsesMultipleFields, SubscriptionUsesIntrospection, SubscriptionUsesConditionalSelection}
-use Rattle.document_meaning.specs.MeantTree.{MeantOperation}
+use Rattle.fault_document_errors.specs.DocumentBreaches.{SubscriptionUsesMultipleFields, SubscriptionUsesIntrospection, SubscriptionUsesConditionalSelection}
+use Rattle.spec_document.specs.MeantTree.{MeantOperation}
 use Rattle.rule_cycle_search.specs.Paths.{HasNoRepeat}
 use Rattle.rule_definitions.proofs.Lists.{Contains-first}
 use Rattle.rule_document_definitions.specs.DocumentFaults.{Broken, broken}

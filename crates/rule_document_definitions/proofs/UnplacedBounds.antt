@@ -1,8 +1,8 @@
 -- A document passes a bound exactly if it does without places.
 use Rattle.std.proofs.Common.{◌≡◌, ◌↔◌, ℕ, ◌<◌, List, [], ◌∷◌, ◌++◌, map, length, codes, option_to_list, refl, sym, ap, subst, ◌∙◌, Contains}
 use Rattle.std.proofs.lemmas.List.{length-map}
-use Rattle.document_meaning.specs.MeantTree.{MeantOperation, MeantFragment, MeantDocument}
-use Rattle.document_meaning.specs.Unplaced.{unplaced_operation, unplaced_fragment, unplaced_document}
+use Rattle.spec_document.specs.MeantTree.{MeantOperation, MeantFragment, MeantDocument}
+use Rattle.spec_document.specs.Unplaced.{unplaced_operation, unplaced_fragment, unplaced_document}
 use Rattle.rule_cycle_search.specs.Paths.{IsWay, HasNoRepeat}
 use Rattle.rule_definitions.specs.Diagnostics.{RecursionError, DeeplyNestedType}
 use Rattle.rule_definitions.specs.Faults.{wrong}

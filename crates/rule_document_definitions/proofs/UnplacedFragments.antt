@@ -8,8 +8,8 @@ use Rattle.std.proofs.lemmas.List.{reverse-append}
 use Rattle.std.proofs.lemmas.Option.{same_Some}
 use Rattle.graphql_names.specs.Placed.{Placed, unplaced_text}
 use Rattle.tree_directives.specs.DirectiveTree.{Arguments, Directives, unplaced_arguments, unplaced_directives}
-use Rattle.document_meaning.specs.MeantTree.{MeantSelection, MeantField, MeantSpread, MeantInline, MeantOperation, MeantFragment, MeantDocument}
-use Rattle.document_meaning.specs.Unplaced.{unplaced_meant, unplaced_operation, unplaced_fragment, unplaced_document}
+use Rattle.spec_document.specs.MeantTree.{MeantSelection, MeantField, MeantSpread, MeantInline, MeantOperation, MeantFragment, MeantDocument}
+use Rattle.spec_document.specs.Unplaced.{unplaced_meant, unplaced_operation, unplaced_fragment, unplaced_document}
 use Rattle.rule_definitions.specs.Diagnostics.{SpreadTree, map_place, RecursiveFragmentDefinition}
 use Rattle.rule_definitions.specs.Faults.{wrong}
 use Rattle.rule_definitions.specs.Judged.{Judged}

@@ -1,8 +1,8 @@
 -- What rules on merging tell of a document without places.
 use Rattle.std.proofs.Common.{◌≡◌, ◌↔◌, ℕ, List, sym, ap, subst}
-use Rattle.fault_document_data.specs.DocumentBreaches.{ConflictingFieldName, ConflictingFieldArgument, ConflictingFieldType}
-use Rattle.document_meaning.specs.MeantTree.{MeantOperation, MeantDocument}
-use Rattle.document_meaning.specs.Unplaced.{unplaced_operation, unplaced_document}
+use Rattle.fault_document_errors.specs.DocumentBreaches.{ConflictingFieldName, ConflictingFieldArgument, ConflictingFieldType}
+use Rattle.spec_document.specs.MeantTree.{MeantOperation, MeantDocument}
+use Rattle.spec_document.specs.Unplaced.{unplaced_operation, unplaced_document}
 use Rattle.schema_coordinates.specs.Coordinate.{OfArgument}
 use Rattle.rule_definitions.specs.Judged.{Judged}
 use Rattle.rule_document_definitions.specs.DocumentFaults.{Broken, broken}

@@ -2,8 +2,8 @@
 use Rattle.std.proofs.Common.{◌≡◌, ℕ, suc, List, [], ◌∷◌, ◌++◌, map, flat_map, refl, sym, ap, ap₂, subst, ◌∙◌, Option, None, Some, Contains}
 use Rattle.std.specs.Option.{option_map}
 use Rattle.std.specs.List.{cons_option}
-use Rattle.document_meaning.specs.MeantTree.{MeantSelection, MeantField, MeantSpread, MeantInline, MeantSet, meant_set, MeantSelections, no_meant, meant_then, MeantOperation, MeantFragment, MeantDocument}
-use Rattle.document_meaning.specs.Unplaced.{unplaced_meant, unplaced_set, unplaced_members, unplaced_operation, unplaced_fragment, unplaced_document}
+use Rattle.spec_document.specs.MeantTree.{MeantSelection, MeantField, MeantSpread, MeantInline, MeantSet, meant_set, MeantSelections, no_meant, meant_then, MeantOperation, MeantFragment, MeantDocument}
+use Rattle.spec_document.specs.Unplaced.{unplaced_meant, unplaced_set, unplaced_members, unplaced_operation, unplaced_fragment, unplaced_document}
 use Rattle.rule_definitions.specs.Words.{Present}
 use Rattle.rule_definitions.proofs.Lists.{mapped_some}
 use Rattle.rule_document_definitions.specs.Selected.{Position, InOperation, InFragment, SelectionAt, Standing, StandingField, all_in, all_from, all_below, all_selections, as_field, spread_name, operations, fragments, fragment_named, operation_name, own}

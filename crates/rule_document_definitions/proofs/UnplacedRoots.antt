@@ -9,9 +9,9 @@ use Rattle.tree_literals.specs.ValueTree.{ValueTree, unplaced_value}
 use Rattle.tree_literals.specs.ValueQueries.{variable_name, string_text, boolean_value}
 use Rattle.tree_directives.specs.DirectiveTree.{DirectiveTree}
 use Rattle.tree_directives.specs.DirectiveQueries.{given_value, directive_has_name}
-use Rattle.fault_document_data.specs.DocumentBreaches.{DocumentBreach, SubscriptionUsesMultipleFields, SubscriptionUsesIntrospection, SubscriptionUsesConditionalSelection, DuplicateDeferLabel}
-use Rattle.document_meaning.specs.MeantTree.{MeantOperation, MeantDocument}
-use Rattle.document_meaning.specs.Unplaced.{unplaced_meant, unplaced_operation, unplaced_document}
+use Rattle.fault_document_errors.specs.DocumentBreaches.{DocumentBreach, SubscriptionUsesMultipleFields, SubscriptionUsesIntrospection, SubscriptionUsesConditionalSelection, DuplicateDeferLabel}
+use Rattle.spec_document.specs.MeantTree.{MeantOperation, MeantDocument}
+use Rattle.spec_document.specs.Unplaced.{unplaced_meant, unplaced_operation, unplaced_document}
 use Rattle.rule_cycle_search.specs.Paths.{HasNoRepeat}
 use Rattle.rule_definitions.specs.Words.{AtSomeIndex, Repeats}
 use Rattle.rule_definitions.specs.Names.{directive_name}

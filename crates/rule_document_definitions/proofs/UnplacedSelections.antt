@@ -3,8 +3,8 @@ use Rattle.std.proofs.Common.{◌↔◌, [], map, refl}
 use Rattle.tree_directives.specs.DirectiveTree.{Arguments, Directives}
 use Rattle.tree_directives.specs.OperationQueries.{location_of_operation}
 use Rattle.tree_directives.specs.declared.directive_location.DirectiveLocation.TheVariants as location
-use Rattle.document_meaning.specs.MeantTree.{MeantSelection, MeantField, MeantSpread, MeantInline, MeantSet, meant_set, no_meant, meant_then, MeantOperation, MeantDocument}
-use Rattle.document_meaning.specs.Unplaced.{unplaced_meant, unplaced_set, unplaced_operation, unplaced_document}
+use Rattle.spec_document.specs.MeantTree.{MeantSelection, MeantField, MeantSpread, MeantInline, MeantSet, meant_set, no_meant, meant_then, MeantOperation, MeantDocument}
+use Rattle.spec_document.specs.Unplaced.{unplaced_meant, unplaced_set, unplaced_operation, unplaced_document}
 use Rattle.rule_definitions.specs.Judged.{Judged}
 use Rattle.rule_definitions.specs.Names.{named_in}
 use Rattle.rule_definitions.specs.Uses.{UsesBreak}

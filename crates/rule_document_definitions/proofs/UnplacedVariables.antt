@@ -7,8 +7,8 @@ use Rattle.tree_literals.specs.ValueTree.{ValueTree, ItemTrees, EntryTrees, Null
 use Rattle.tree_directives.specs.DirectiveTree.{Arguments, Directives}
 use Rattle.tree_directives.specs.declared.directive_location.DirectiveLocation.TheVariants as location
 use Rattle.rule_definitions.specs.in_schema_types.SchemaTree.{kind_words, is_input_kind}
-use Rattle.document_meaning.specs.MeantTree.{MeantSelection, MeantField, MeantSpread, MeantInline, MeantOperation, MeantDocument}
-use Rattle.document_meaning.specs.Unplaced.{unplaced_meant, unplaced_operation, unplaced_fragment, unplaced_document}
+use Rattle.spec_document.specs.MeantTree.{MeantSelection, MeantField, MeantSpread, MeantInline, MeantOperation, MeantDocument}
+use Rattle.spec_document.specs.Unplaced.{unplaced_meant, unplaced_operation, unplaced_fragment, unplaced_document}
 use Rattle.rule_definitions.specs.Diagnostics.{UndefinedDefinition, VariableInputType, UnusedVariable}
 use Rattle.rule_definitions.specs.Words.{Present}
 use Rattle.rule_definitions.specs.Faults.{wrong}

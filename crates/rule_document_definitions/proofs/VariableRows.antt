@@ -4,7 +4,7 @@ use Rattle.tree_literals.specs.TypeTree.{TypeTree, NamedTree, NonNullNamedTree, 
 use Rattle.tree_literals.specs.ValueTree.{VariableTree, NullTree}
 use Rattle.tree_directives.specs.DirectiveTree.{Arguments}
 use Rattle.tree_directives.specs.declared.operation_type.OperationType.TheVariants as operation
-use Rattle.document_meaning.specs.MeantTree.{MeantOperation}
+use Rattle.spec_document.specs.MeantTree.{MeantOperation}
 use Rattle.rule_definitions.specs.Diagnostics.{UniqueVariable, UndefinedDefinition, VariableInputType, UnusedVariable, UnsupportedValueType}
 use Rattle.rule_definitions.specs.Faults.{FaultAt, wrong}
 use Rattle.rule_definitions.specs.Names.{defined_name}

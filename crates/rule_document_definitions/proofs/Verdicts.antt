@@ -3,8 +3,8 @@ use Rattle.std.proofs.Common.{◌≡◌, ◌⊎◌, ◌↔◌, refl, sym, ap, su
 use Rattle.std.proofs.lemmas.Option.{same_Some}
 use Rattle.graphql_names.specs.Placed.{Place}
 use Rattle.rule_definitions.specs.in_schema_types.SchemaTree.{SchemaTree}
-use Rattle.document_meaning.specs.MeantTree.{MeantSet, MeantDocument}
-use Rattle.document_meaning.specs.Unplaced.{unplaced_set, unplaced_operation, unplaced_document}
+use Rattle.spec_document.specs.MeantTree.{MeantSet, MeantDocument}
+use Rattle.spec_document.specs.Unplaced.{unplaced_set, unplaced_operation, unplaced_document}
 use Rattle.rule_definitions.specs.Faults.{FaultAt}
 use Rattle.rule_definitions.specs.Judged.{Judged, judged}
 use Rattle.rule_definitions.proofs.Lists.{not_in_nil}
@@ -22,7 +22,7 @@ use Rattle.rule_document_definitions.specs.DocumentRules.{DataBreaks, RulesFail,
 use Rattle.rule_document_definitions.specs.FieldSets.{document_of_set, FieldSetFails}
 use Rattle.rule_document_definitions.specs.Standalone.{OperationBreaksAlone, StandaloneFails}
 use Rattle.rule_document_definitions.specs.Verdict.{no_places, UnplacedFault, Merging}
-use Rattle.rule_document_definitions.specs.Told.{places_in, places_alone}
+use Rattle.rule_document_definitions.specs.PlacedDocumentFaults.{places_in, places_alone}
 use Rattle.rule_document_definitions.specs.Laws.{RulesWithoutPlaces, MergingWithoutPlaces, SetRulesWithoutPlaces, RulesAloneWithoutPlaces, BoundsWithoutPlaces, SetBoundsWithoutPlaces, MergesWhereNothingIsTold, ValidWhereNothingIsTold, SetValidWhereNothingIsTold, ValidAloneWhereNothingIsTold, WithinBoundsWhereNothingIsTold, SetWithinBoundsWhereNothingIsTold}
 use Rattle.rule_document_definitions.proofs.Unplaced.{contains_map, contains_unmap}
 use Rattle.rule_document_definitions.proofs.MergingFacts.{merging_breaks_nothing}

@@ -6,7 +6,7 @@ use Rattle.schema_coordinates.specs.Coordinate.{OfAttribute}
 use Rattle.rule_definitions.specs.in_schema_types.SchemaTree.{SchemaTree}
 use Rattle.rule_definitions.specs.in_schema_types.BuiltIn.{built_in}
 use Rattle.rule_definitions.specs.in_schema_types.Addresses.{FieldAt, ArgumentAt, field_at, place_at}
-use Rattle.document_meaning.specs.MeantTree.{MeantOperation, MeantSet, set_on}
+use Rattle.spec_document.specs.MeantTree.{MeantOperation, MeantSet, set_on}
 use Rattle.rule_definitions.specs.Diagnostics.{MissingSubselection, UndefinedDirective}
 use Rattle.rule_definitions.specs.Faults.{FaultAt, wrong}
 use Rattle.rule_definitions.proofs.Lists.{not_in_nil, only}
@@ -20,7 +20,7 @@ use Rattle.rule_document_definitions.specs.Defer.{DeferBreaks}
 use Rattle.rule_document_definitions.specs.DocumentRules.{RulesFail}
 use Rattle.rule_document_definitions.specs.FieldSets.{FieldSetFails}
 use Rattle.rule_document_definitions.specs.Standalone.{StandaloneFails}
-use Rattle.rule_document_definitions.specs.Told.{place_or_built_in}
+use Rattle.rule_document_definitions.specs.PlacedDocumentFaults.{place_or_built_in}
 use Rattle.rule_document_definitions.proofs.RowWords.{not_present, not_at_index, none_repeats, none_reached, no_fragment}
 use Rattle.rule_document_definitions.proofs.RowParts.{by_numbers, small, query_name, a_name, p_type, leaf_with, p_field, query_of, alone, applied, at_root}
 use Rattle.rule_document_definitions.proofs.SelectionRows.{only_a, a_selects_nothing, nothing_is_given, a_has_no_directive}

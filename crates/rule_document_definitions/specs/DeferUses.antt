@@ -6,7 +6,7 @@ use Rattle.tree_literals.specs.ValueTree.{ValueTree}
 use Rattle.tree_literals.specs.ValueQueries.{variable_name, string_text, boolean_value}
 use Rattle.tree_directives.specs.DirectiveTree.{DirectiveTree, Directives}
 use Rattle.tree_directives.specs.DirectiveQueries.{given_value, directive_has_name}
-use Rattle.document_meaning.specs.MeantTree.{MeantOperation, MeantDocument}
+use Rattle.spec_document.specs.MeantTree.{MeantOperation, MeantDocument}
 use Rattle.rule_definitions.specs.Words.{Present, AtSomeIndex}
 use Rattle.rule_definitions.specs.Names.{directive_name}
 use Rattle.rule_document_definitions.specs.Selected.{Standing, all_selections, own, selection_directives}
@@ -17,21 +17,21 @@ module _ {P : Type 0} where
   abbrev pub defers : Standing P → Directives P
   defers x = filter (directive_has_name (codes "defer")) (selection_directives x.it)
 
-  -- what is given to a directive as `if`, and the literal that it is
+  -- the value that is given to a directive as `if`; below, that value if it is a Boolean literal
   abbrev pub given_if : Placed P (DirectiveTree P) → Option (Placed P (ValueTree P))
   given_if e = given_value (codes "if") e.it.arguments
 
   abbrev pub literal_if : Placed P (DirectiveTree P) → Option Bool
   literal_if e = option_and_then (λ v. boolean_value v.it) (given_if e)
 
-  -- the selection may be left out: @skip if not literally false, @include if not literally true
+  -- the selection may be left out: it has @skip whose `if` is not the literal false, or @include whose `if` is not the literal true
   abbrev pub MayBeLeftOut : Standing P → Type 0
   MayBeLeftOut x = AtSomeIndex (selection_directives x.it) (λ i e.
       ((directive_name e ≡ codes "skip") × (literal_if e ≢ Some false)) ⊎ ((directive_name e ≡ codes "include") × (literal_if e ≢ Some true)))
 
   -- ---- labels, over the whole kept document
 
-  -- what is given as labels, in order; the strings among them
+  -- the values that are given as labels, in order; below, the strings among them
   abbrev pub labels : MeantDocument P → List (Placed P (ValueTree P))
   labels d = filter_map (λ e. given_value (codes "label") e.it.arguments) (flat_map defers (all_selections d))
 
@@ -40,11 +40,11 @@ module _ {P : Type 0} where
 
 -- ---- in an operation
 
--- `if` is false, or a variable
+-- the value of `if` is the literal false, or a variable
 abbrev pub IsConditional : {P : Type 0} → Placed P (DirectiveTree P) → Type 0
 IsConditional e = (literal_if e ≡ Some false) ⊎ Present (given_if e) (λ v. Present (variable_name v.it) (λ n. Unit {0}))
 
 module _ {P : Type 0} (d : MeantDocument P) (o : MeantOperation P) where
-  -- the operation reaches it on a way on which nothing may be left out
+  -- the operation reaches the selection by a path on which no selection can be left out, this one included
   abbrev pub ReachedAlways : Standing P → Type 0
   ReachedAlways = Closed (λ x. Contains (own o) x × (MayBeLeftOut x → ⊥)) (λ x y. LeadsInto d x y × (MayBeLeftOut y → ⊥))

@@ -1,4 +1,4 @@
--- What fields must agree in is an equivalence: so where each field of a group agrees with the first, any two agree (GraphQL, October
+-- What fields must agree in is an equivalence: so if each field of a group agrees with the first, any two agree (GraphQL, October
 -- 2021, section 5.3.2).
 use Rattle.graphql_names.specs.Placed.{Place}
 use Rattle.rule_definitions.specs.Judged.{Judged}
@@ -10,10 +10,10 @@ pub record IsEquivalence (Agree : StandingField Place → StandingField Place �
   pub symmetric : (f g : StandingField Place) → Agree f g → Agree g f
   pub transitive : (f g k : StandingField Place) → Agree f g → Agree g k → Agree f k
 
--- to have one shape
+-- having one shape is an equivalence
 abbrev pub ShapesAgreeAsEquals : Type 0
 ShapesAgreeAsEquals = (s : Judged) → IsEquivalence (SameShape s)
 
--- to have one name and the same arguments
+-- having one name and the same arguments is an equivalence
 abbrev pub SelectionsAgreeAsEquals : Type 0
 SelectionsAgreeAsEquals = IsEquivalence SameNameAndArguments

@@ -1,5 +1,5 @@
--- What is told of a document, with nothing for the places.
-use Rattle.fault_document_data.specs.DocumentBreaches.{Selected, DocumentBreach, TypeSystemDefinition, AmbiguousAnonymousOperation, OperationNameCollision, FragmentNameCollision, UndefinedRootOperation, UndefinedTypeInNamedFragmentTypeCondition, UndefinedTypeInInlineFragmentTypeCondition, SubselectionOnScalarType, SubselectionOnEnumType, UndefinedField, ConflictingFieldName, ConflictingFieldArgument, ConflictingFieldType, SubscriptionUsesMultipleFields, SubscriptionUsesIntrospection, SubscriptionUsesConditionalSelection, DeferLabelMustNotBeVariable, DuplicateDeferLabel, DeferOnRootMutationOrSubscriptionField, DeferInSubscriptionMustBeConditional}
+-- What is told of a document, without places.
+use Rattle.fault_document_errors.specs.DocumentBreaches.{Selected, DocumentBreach, TypeSystemDefinition, AmbiguousAnonymousOperation, OperationNameCollision, FragmentNameCollision, UndefinedRootOperation, UndefinedTypeInNamedFragmentTypeCondition, UndefinedTypeInInlineFragmentTypeCondition, SubselectionOnScalarType, SubselectionOnEnumType, UndefinedField, ConflictingFieldName, ConflictingFieldArgument, ConflictingFieldType, SubscriptionUsesMultipleFields, SubscriptionUsesIntrospection, SubscriptionUsesConditionalSelection, DeferLabelMustNotBeVariable, DuplicateDeferLabel, DeferOnRootMutationOrSubscriptionField, DeferInSubscriptionMustBeConditional}
 use Rattle.rule_definitions.specs.Diagnostics.{map_places}
 use Rattle.rule_definitions.specs.Faults.{FaultAt, wrong}
 use Rattle.rule_document_definitions.specs.DocumentFaults.{Broken, broken, DocumentFault, OfData, OfDocument, OfLimit}

@@ -3,7 +3,7 @@ use Rattle.std.specs.Prelude.{◌≡◌, ℕ, List, ◌∷◌, reverse, Contains
 use Rattle.graphql_names.specs.Placed.{Placed}
 use Rattle.tree_directives.specs.DirectiveTree.{unplaced_directives}
 use Rattle.rule_definitions.specs.in_schema_types.Addresses.{TypeAt}
-use Rattle.document_meaning.specs.MeantTree.{MeantSelection, MeantSpread, MeantOperation, MeantFragment, MeantDocument}
+use Rattle.spec_document.specs.MeantTree.{MeantSelection, MeantSpread, MeantOperation, MeantFragment, MeantDocument}
 use Rattle.rule_definitions.specs.Diagnostics.{SpreadTree, UndefinedFragment, UnusedFragment, RecursiveFragmentDefinition, InvalidFragmentTarget, InvalidFragmentSpread}
 use Rattle.rule_definitions.specs.Words.{Present}
 use Rattle.rule_definitions.specs.Faults.{FaultAt, wrong}
@@ -16,7 +16,7 @@ use Rattle.rule_document_definitions.specs.PossibleTypes.{IsNotComposite, MayApp
 
 -- ---- references
 
--- the spread that a selection is, without places in it, with its place
+-- the selection, if it is a spread: without places in it, with its own place
 abbrev pub as_spread : {P : Type 0} → MeantSelection P → Option (Placed P SpreadTree)
 as_spread (MeantSpread p n ds) = Some (record { it = record { fragment_name = n.it; directives = unplaced_directives ds }; place = p })
 as_spread _ = None
@@ -30,7 +30,7 @@ RefersBySpread {P} d n by to = Present (fragment_named d n) (λ f. (x : Standing
 abbrev pub ReachesItself : {P : Type 0} → MeantDocument P → MeantFragment P → Type 0
 ReachesItself {P} d f = (by : Placed P SpreadTree) × ((rest : List (Placed P SpreadTree)) × Leads (RefersBySpread d) f.name.it (by ∷ rest) f.name.it)
 
--- ---- rules that ask nothing of a schema
+-- ---- rules that need no schema
 
 module _ {P E : Type 0} (d : MeantDocument P) (fault : FaultAt P E) where
   -- UndefinedFragment: a fragment spread is valid only if the fragment is defined (section 5.5.2.1)
@@ -68,7 +68,7 @@ module _ {P E : Type 0} (s : Judged) (d : MeantDocument P) (o : MeantOperation P
       ⊎ Present (inline_condition x.it) (λ c. (MayApply s x.parent c → ⊥)
       × (fault ≡ wrong (selection_place x.it) (InvalidFragmentSpread None x.parent c (selection_place x.it) (places.at (TypeAt x.parent))))))
 
--- a rule on fragments fails so, in an operation
+-- a rule on fragments is broken in an operation, with this fault
 abbrev pub FragmentsBreak : {P E : Type 0} → Places P → Judged → MeantDocument P → MeantOperation P → FaultAt P E → Type 0
 FragmentsBreak places s d o fault =
     UndefinedFragmentAt d fault o ⊎ (RecursiveFragmentDefinitionAt d fault places o

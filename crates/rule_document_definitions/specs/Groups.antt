@@ -1,4 +1,4 @@
--- Private: leads to `FieldsMerge`. Merging by groups: what a list of fields with its groups answers, once for each list, instead of for each pair of chains.
+-- Private: leads to `FieldsMerge`. Merging by groups: each list of fields is examined once, by its groups, instead of once for each pair of chains.
 use Rattle.std.specs.Prelude.{List, [], ◌∷◌, Contains}
 use Rattle.std.specs.List.{AllByRecursion}
 

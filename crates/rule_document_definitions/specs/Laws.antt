@@ -1,11 +1,11 @@
--- Equal schemas with equal marks, and equal documents, places aside: rules hold of both or of neither, whatever they are. The fields
--- of an operation merge exactly if their contents do, and if they do without places. And what is valid, which is said without
--- places, is what nothing is told of at places.
+-- If two schemas are equal, with equal marks, and two documents are equal, ignoring places, then rules hold of both or of neither. The
+-- fields of an operation merge exactly when their contents do, in the document without places. And a document is valid, which is defined
+-- without places, exactly when no fault is told of it at any place.
 use Rattle.std.specs.Prelude.{◌≡◌, ◌↔◌, ◌⊎◌}
 use Rattle.graphql_names.specs.Placed.{Place}
 use Rattle.rule_definitions.specs.in_schema_types.SchemaTree.{SchemaTree}
-use Rattle.document_meaning.specs.MeantTree.{MeantSet, MeantOperation, MeantDocument}
-use Rattle.document_meaning.specs.Unplaced.{unplaced_operation, unplaced_document, unplaced_set}
+use Rattle.spec_document.specs.MeantTree.{MeantSet, MeantOperation, MeantDocument}
+use Rattle.spec_document.specs.Unplaced.{unplaced_operation, unplaced_document, unplaced_set}
 use Rattle.rule_definitions.specs.Laws.{AreEqual}
 use Rattle.rule_definitions.specs.Judged.{Judged, judged}
 use Rattle.rule_document_definitions.specs.Merging.{FieldsMerge}
@@ -17,7 +17,7 @@ use Rattle.rule_document_definitions.specs.Standalone.{StandaloneFails}
 use Rattle.rule_document_definitions.specs.Verdict.{no_places, UnplacedFault, Merging, WithinBounds, FieldSetWithinBounds}
 use Rattle.rule_document_definitions.specs.FaultsUnplaced.{unplaced_fault}
 use Rattle.rule_document_definitions.specs.Named.{FragmentsFoundByName}
-use Rattle.rule_document_definitions.specs.Told.{PlacedDocumentFault, DocumentFails, DocumentMergingFails, SetRulesFail, DocumentBoundFails, SetBoundFails, DocumentFailsAlone, IsValidDocument, IsValidFieldSet, IsValidAlone}
+use Rattle.rule_document_definitions.specs.PlacedDocumentFaults.{PlacedDocumentFault, DocumentFails, DocumentMergingFails, SetRulesFail, DocumentBoundFails, SetBoundFails, DocumentFailsAlone, IsValidDocument, IsValidFieldSet, IsValidAlone}
 
 abbrev pub SameDocumentVerdict : Type 0
 SameDocumentVerdict = (a b : SchemaTree Place) → AreEqual a b → (d e : MeantDocument Place) → unplaced_document d ≡ unplaced_document e
@@ -36,7 +36,7 @@ SameVerdictAlone = (d e : MeantDocument Place) → unplaced_document d ≡ unpla
 abbrev pub MergesByContents : Type 0
 MergesByContents = (s : Judged) (d : MeantDocument Place) (o : MeantOperation Place) → FieldsMerge s d o ↔ ContentsMerge s (unplaced_document d) (unplaced_operation o)
 
--- ---- what is told at places is what is told without them, each fault with its places left out
+-- ---- the faults without places are those that are told at places, each with its places left out
 
 abbrev pub TellsWithoutPlaces : (PlacedDocumentFault → Type 0) → (UnplacedFault → Type 0) → Type 0
 TellsWithoutPlaces Fails FailsUnplaced = (fault : UnplacedFault) → FailsUnplaced fault ↔ ((told : PlacedDocumentFault) × (Fails told × (fault ≡ unplaced_fault told)))
@@ -60,7 +60,7 @@ BoundsWithoutPlaces = (d : MeantDocument Place) → TellsWithoutPlaces (Document
 abbrev pub SetBoundsWithoutPlaces : Type 0
 SetBoundsWithoutPlaces = (set : MeantSet Place) → TellsWithoutPlaces (SetBoundFails set) (FieldSetBoundFails no_places (unplaced_set set))
 
--- ---- so nothing is told exactly of what is valid, and of what is within the bounds
+-- ---- so nothing is told exactly when the rules hold; and of bounds, exactly when they are not passed
 
 abbrev pub MergesWhereNothingIsTold : Type 0
 MergesWhereNothingIsTold = (s : SchemaTree Place) (d : MeantDocument Place) →

@@ -23,7 +23,7 @@ pub mod Standalone
 pub mod Verdict
 pub mod FaultsUnplaced
 pub mod Named
-pub mod Told
+pub mod PlacedDocumentFaults
 pub mod Laws
 pub mod Settled
 pub mod Going
@@ -33,4 +33,4 @@ pub mod MergingLaws
 pub mod Equivalences
 pub mod Written
 pub mod ReadFields
-pub use Rattle.document_meaning.specs as in_document_meaning
+pub use Rattle.spec_document.specs as in_spec_document

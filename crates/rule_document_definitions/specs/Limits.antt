@@ -1,6 +1,6 @@
--- The bounds on documents: no rules, but what may be answered where one is passed. None speaks of an order of walking.
+-- The bounds on documents: no rules, but what may be told if one is passed. None of them depends on an order of traversal.
 use Rattle.std.specs.Prelude.{◌≡◌, ℕ, ◌<◌, List, [], ◌∷◌, ◌++◌, length, codes, option_to_list, Contains, ◌⊎◌}
-use Rattle.document_meaning.specs.MeantTree.{MeantOperation, MeantFragment, MeantDocument}
+use Rattle.spec_document.specs.MeantTree.{MeantOperation, MeantFragment, MeantDocument}
 use Rattle.rule_definitions.specs.Diagnostics.{RecursionError, DeeplyNestedType}
 use Rattle.rule_definitions.specs.Faults.{wrong}
 use Rattle.rule_cycle_search.specs.Paths.{IsWay, HasNoRepeat}
@@ -12,7 +12,7 @@ use Rattle.rule_document_definitions.specs.Fragments.{RefersBySpread}
 use Rattle.rule_document_definitions.specs.Chains.{Chain}
 use Rattle.rule_document_definitions.specs.Merging.{Below, Starts}
 
--- the greatest number of fragments on a way of spreads, length of a path of selections, length of a chain of fields
+-- the greatest number of fragments on a path of spreads; below, the greatest length of a path of selections, and of a chain of fields
 abbrev pub spread_bound : ℕ
 spread_bound = 100
 
@@ -22,27 +22,28 @@ path_bound = 500
 abbrev pub chain_bound : ℕ
 chain_bound = 128
 
--- the names of the fragments that a path of selections enters: that of the last is not entered
+-- the names of the fragments that a path of selections enters: if its last selection is a spread, that fragment is not entered
 abbrev pub entered : {P : Type 0} → List (Standing P) → List (List ℕ)
 entered (x ∷ y ∷ path) = option_to_list (spread_name x.it) ++ entered (y ∷ path)
 entered _ = []
 
 module _ {P : Type 0} (d : MeantDocument P) where
-  -- a way of spreads without repetition from the fragment holds more fragments
+  -- a path of spreads without repetition from the fragment has more fragments than the bound
   abbrev pub PassesSpreadBound : MeantFragment P → Type 0
   PassesSpreadBound f = (rest : List (List ℕ)) × (IsWay (RefersBySpread d) (f.name.it ∷ rest) × (HasNoRepeat (f.name.it ∷ rest)
       × (spread_bound < length (f.name.it ∷ rest))))
 
-  -- one selection of a path leads into the next
+  -- the selection x of a path leads into the next, y
   abbrev pub Enters : Standing P → Unit {0} → Standing P → Type 0
   Enters x by y = LeadsInto d x y
 
-  -- a path of selections, each inside the one before or inside the fragment that it spreads, none of these entered twice, is longer
+  -- a path of selections is longer than the bound: each is inside the one before or inside the fragment that it spreads, and no fragment is
+  -- entered twice
   abbrev pub PassesPathBound : Type 0
   PassesPathBound = (x : Standing P) × ((path : List (Standing P)) × (Contains (all_selections d) x × (IsWay Enters (x ∷ path)
       × (HasNoRepeat (entered (x ∷ path)) × (path_bound < length (x ∷ path))))))
 
-  -- a chain of fields, the operation's own first, is longer
+  -- a chain of fields that begins with a root field of the operation is longer than the bound
   abbrev pub PassesChainBound : MeantOperation P → Type 0
   PassesChainBound o = (c : List (StandingField P)) × (Chain (Below d) (Starts d o) c × (chain_bound < length c))
 
@@ -61,6 +62,6 @@ module _ {P E : Type 0} (places : Places P) (d : MeantDocument P) (fault : Docum
   abbrev pub ChainBoundFails : Type 0
   ChainBoundFails = AtOperation d (λ o. PassesChainBound d o × (fault ≡ OfLimit o.place))
 
-  -- SpreadBound, PathBound or ChainBound is passed, and this tells it
+  -- SpreadBound, PathBound or ChainBound is passed, with this fault
   abbrev pub BoundFails : Type 0
   BoundFails = SpreadBoundFails ⊎ (PathBoundFails ⊎ ChainBoundFails)

@@ -1,10 +1,10 @@
--- Merging: fields that may be answered under one key agree, for all pairs of chains of an operation (GraphQL, October 2021, section 5.3.2).
+-- Merging: fields that may be under one response key agree, for all pairs of chains of an operation (GraphQL, October 2021, section 5.3.2).
 use Rattle.std.specs.Prelude.{◌≡◌, ℕ, List, [], Option, ◌⊎◌}
 use Rattle.tree_literals.specs.TypeTree.{TypeTree, NamedTree, NonNullNamedTree, ListTree, NonNullListTree}
 use Rattle.schema_coordinates.specs.Coordinate.{OfAttribute, OfArgument}
 use Rattle.rule_definitions.specs.in_schema_types.declared.type_kind.TypeKind.TheVariants as kind
-use Rattle.fault_document_data.specs.DocumentBreaches.{Selected, ConflictingFieldName, ConflictingFieldArgument, ConflictingFieldType}
-use Rattle.document_meaning.specs.MeantTree.{MeantOperation, MeantDocument}
+use Rattle.fault_document_errors.specs.DocumentBreaches.{Selected, ConflictingFieldName, ConflictingFieldArgument, ConflictingFieldType}
+use Rattle.spec_document.specs.MeantTree.{MeantOperation, MeantDocument}
 use Rattle.rule_definitions.specs.Words.{Present}
 use Rattle.rule_definitions.specs.Judged.{Judged}
 use Rattle.rule_definitions.specs.Names.{named_in}
@@ -15,7 +15,7 @@ use Rattle.rule_document_definitions.specs.PossibleTypes.{IsComposite}
 use Rattle.rule_document_definitions.specs.Chains.{Meet, Merge}
 use Rattle.rule_document_definitions.specs.SameValues.{Plain, plain_given, SameGiven, SameArguments}
 
--- a reference to a type without the name in it
+-- a reference to a type with an empty name: its lists and marks alone
 abbrev pub lists_and_marks : TypeTree (Unit {0}) → TypeTree (Unit {0})
 lists_and_marks (NamedTree n) = NamedTree (record { it = []; place = tt })
 lists_and_marks (NonNullNamedTree n) = NonNullNamedTree (record { it = []; place = tt })
@@ -30,12 +30,12 @@ module _ (s : Judged) where
   abbrev pub SameInner : List ℕ → List ℕ → Type 0
   SameInner a b = (a ≡ b) ⊎ (IsComposite s a × IsComposite s b)
 
-  -- "If typeA or typeB is Non-Null, both must be, and if one is List, both": lists and marks alike
+  -- "If typeA or typeB is Non-Null, both must be, and if one is List, both": the same lists and marks
   abbrev pub SameType : TypeTree (Unit {0}) → TypeTree (Unit {0}) → Type 0
   SameType a b = (lists_and_marks a ≡ lists_and_marks b) × SameInner (named_in a) (named_in b)
 
 module _ {P : Type 0} where
-  -- "fieldsForName": the fields are answered under one key
+  -- "fieldsForName": the fields have one response key
   abbrev pub SameKey : StandingField P → StandingField P → Type 0
   SameKey f g = response_key f ≡ response_key g
 
@@ -58,7 +58,7 @@ module _ {P : Type 0} where
   abbrev pub SameNameAndArguments : StandingField P → StandingField P → Type 0
   SameNameAndArguments f g = SameName f g × SameArguments f.head.arguments g.head.arguments
 
-  -- ---- chains: a chain begins in the operation's own fields, each next field is one of what the one before selects, through fragments
+  -- ---- chains: the first field is a root field of the operation, each next one is selected by the one before, through fragments
 
   abbrev pub Below : MeantDocument P → StandingField P → StandingField P → Type 0
   Below d f g = IsFieldOf d f.position f.set g
@@ -66,7 +66,7 @@ module _ {P : Type 0} where
   abbrev pub Starts : MeantDocument P → MeantOperation P → StandingField P → Type 0
   Starts d o f = IsFieldOf d (InOperation (operation_name o)) o.set f
 
-  -- a field as a fault tells it
+  -- a field as a fault names it
   abbrev pub telling : {A : Type 0} → StandingField P → A → Selected P A
   telling f a = record { location = f.place; coordinate = OfAttribute f.parent (field_name f); what = a }
 
@@ -80,15 +80,15 @@ module _ {P : Type 0} where
 module _ {P : Type 0} (s : Judged) (d : MeantDocument P) (o : MeantOperation P) where
   -- the fields of the operation merge ("FieldsInSetCanMerge(set) must be true")
   pub record FieldsMerge : Type 0 where
-    -- where keys are equal at each step, the last fields have one shape
+    -- the last fields of two chains with equal keys at each step have one shape
     pub shapes : Merge (Below d) SameKey (Starts d o) (SameShape s)
-    -- where one object may have both at each step, they have one name and the same arguments
+    -- the last fields of two chains with fields that one object may have at each step have one name and the same arguments
     pub selections : Merge (Below d) (MayShare s) (Starts d o) SameNameAndArguments
 
-  -- ---- what does not, with its fault, which stands at the second of two fields
+  -- ---- fields that do not merge, with the fault, which is at the second of two fields
 
   module _ (fault : Broken P) where
-    -- fields that meet in chains of this kind and do not agree
+    -- Q holds of the last fields of two chains that go together, and these fields do not agree
     abbrev pub AtMeeting : (StandingField P → StandingField P → Type 0) → (StandingField P → StandingField P → Type 0) → (StandingField P → StandingField P → Type 0) → Type 0
     AtMeeting Together Agree Q = (f : StandingField P) × ((g : StandingField P) × (Meet (Below d) Together (Starts d o) f g × ((Agree f g → ⊥) × Q f g)))
 
@@ -109,6 +109,6 @@ module _ {P : Type 0} (s : Judged) (d : MeantDocument P) (o : MeantOperation P) 
     ConflictingFieldArgumentAt = (n : List ℕ) × AtMeeting (MayShare s) (SameArgument n) (λ f g.
         fault ≡ broken g.place (ConflictingFieldArgument (response_key g) (telling_argument n f) (telling_argument n g)))
 
-    -- a rule on merging fails so
+    -- a rule on merging is broken, with this fault
     abbrev pub MergingBreaks : Type 0
     MergingBreaks = ConflictingFieldTypeAt ⊎ (ConflictingFieldNameAt ⊎ ConflictingFieldArgumentAt)

@@ -1,8 +1,8 @@
--- Merging by groups of fields answers as merging of all pairs of chains does: laws of lists of contents.
+-- Merging by groups of fields gives the same answer as merging of all pairs of chains: laws of lists of contents.
 use Rattle.std.specs.Prelude.{ℕ, ◌<◌, List, Contains}
 use Rattle.graphql_names.specs.Placed.{Place}
-use Rattle.fault_document_data.specs.DocumentBreaches.{ConflictingFieldName, ConflictingFieldArgument, ConflictingFieldType}
-use Rattle.document_meaning.specs.MeantTree.{MeantOperation, MeantDocument}
+use Rattle.fault_document_errors.specs.DocumentBreaches.{ConflictingFieldName, ConflictingFieldArgument, ConflictingFieldType}
+use Rattle.spec_document.specs.MeantTree.{MeantOperation, MeantDocument}
 use Rattle.rule_definitions.specs.Judged.{Judged}
 use Rattle.rule_document_definitions.specs.DocumentFaults.{broken}
 use Rattle.rule_document_definitions.specs.Selected.{StandingField, response_key}
@@ -13,15 +13,14 @@ use Rattle.rule_document_definitions.specs.Settled.{StandWhere, HasStart, Starts
 use Rattle.rule_document_definitions.specs.Going.{IsEndOf}
 use Rattle.rule_document_definitions.specs.PlainFields.{PlainField, PlainStarts, AreShapesSettled, AreSelectionsSettled, AreShapesStanding, AreSelectionsStanding, IsGoingByKeys, IsGoingByParents}
 
--- where lists of contents are settled and one of each kind has all that starts, the fields merge
+-- if lists of contents are settled, and one list for shapes and one for selections have all root fields, the fields merge
 abbrev pub SettledFieldsMerge : Type 0
 SettledFieldsMerge = (s : Judged) (d : MeantDocument Place) (o : MeantOperation Place) (shapes selections : List (List PlainField))
     → AreShapesSettled d s shapes → HasStart (PlainStarts d o) (Contains shapes)
     → AreSelectionsSettled d s selections → HasStart (PlainStarts d o) (Contains selections)
     → FieldsMerge s d o
 
--- where fields that go together and stand in these lists are settled, and all that starts stands with all that starts and goes together
--- with it, the fields merge
+-- if fields that go together and are in one of these lists are settled, and any two root fields that go together are in one of them, the fields merge
 abbrev pub StandingFieldsMerge : Type 0
 StandingFieldsMerge = (s : Judged) (d : MeantDocument Place) (o : MeantOperation Place) (shapes selections : List (List PlainField))
     → AreShapesStanding d s (StandWhere SameKey shapes) → StartsStand (PlainStarts d o) (StandWhere SameKey shapes)
@@ -29,12 +28,12 @@ StandingFieldsMerge = (s : Judged) (d : MeantDocument Place) (o : MeantOperation
     → FieldsMerge s d o
 
 module _ (s : Judged) (d : MeantDocument Place) (o : MeantOperation Place) where
-  -- where fields merge, those of lists that chains lead to agree
+  -- if the fields of the operation merge, two fields of a list that chains lead to agree
   abbrev pub GoingFieldsAgree : Type 0
   GoingFieldsAgree = FieldsMerge s d o → (list : List (StandingField Place)) (f g : StandingField Place) → Contains list f → Contains list g
       → (IsGoingByKeys d o list → SameKey f g → SameShape s f g) × (IsGoingByParents d o s list → MayShare s f g → SameNameAndArguments f g)
 
-  -- where two fields of such a list do not agree, what is told of them breaks a rule on merging
+  -- if two fields of such a list do not agree, what is told of them is a fault of a rule on merging
   abbrev pub GoingFieldsBreak : Type 0
   GoingFieldsBreak = (list : List (StandingField Place)) (f g : StandingField Place) → Contains list f → Contains list g → (
       (IsGoingByKeys d o list → SameKey f g → (SameShape s f g → ⊥)
@@ -44,15 +43,15 @@ module _ (s : Judged) (d : MeantDocument Place) (o : MeantOperation Place) where
       × (IsGoingByParents d o s list → MayShare s f g → (n : List ℕ) → (SameArgument n f g → ⊥)
       → MergingBreaks s d o (broken g.place (ConflictingFieldArgument (response_key g) (telling_argument n f) (telling_argument n g))))))
 
--- a list at the end of chains that are longer than the bound, unless it is empty
+-- if a list has a field, and its fields are the ends of chains that are longer than the bound, the operation passes the bound
 abbrev pub LongChainsPassTheBound : Type 0
 LongChainsPassTheBound = (d : MeantDocument Place) (o : MeantOperation Place) (k : ℕ) (list : List (StandingField Place)) (f : StandingField Place)
     → IsEndOf (ContentBelow d) (ContentStarts d o) k list → Contains list f → chain_bound < k → PassesChainBound d o
 
--- the same for every operation
+-- `GoingFieldsAgree`, for every operation
 abbrev pub GoingAgrees : Type 0
 GoingAgrees = (s : Judged) (d : MeantDocument Place) (o : MeantOperation Place) → GoingFieldsAgree s d o
 
--- the same for every operation
+-- `GoingFieldsBreak`, for every operation
 abbrev pub GoingBreaks : Type 0
 GoingBreaks = (s : Judged) (d : MeantDocument Place) (o : MeantOperation Place) → GoingFieldsBreak s d o

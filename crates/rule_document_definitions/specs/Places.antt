@@ -1,4 +1,4 @@
--- What stands for places: P for each place of the document and of the schema.
+-- The places of a document and of a schema, as values of a type P.
 use Rattle.rule_definitions.specs.in_schema_types.Addresses.{Address}
 
 pub record Places (P : Type 0) : Type 1 where

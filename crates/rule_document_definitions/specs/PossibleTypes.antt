@@ -14,7 +14,7 @@ abbrev pub IsNoCompositeType : TypeLooks → Type 0
 IsNoCompositeType t = (is_output_kind t.kind && not (is_leaf_kind t.kind)) ≡ false
 
 module _ (s : Judged) where
-  -- the type of this name is there, and is composite, is not
+  -- the type of this name is defined and composite; below, defined and not composite
   abbrev pub IsComposite : List ℕ → Type 0
   IsComposite n = Present (s.type_named n) IsCompositeType
 
@@ -27,6 +27,7 @@ module _ (s : Judged) where
   CanBe n object = Present (s.type_named object) (λ u. (u.kind ≡ kind.Object)
       × ((object ≡ n) ⊎ ((u.implements n ≡ true) ⊎ Present (s.type_named n) (λ t. t.has_member object ≡ true))))
 
-  -- a fragment on the second may stand where the first is: the same, or an object type in common
+  -- a fragment on the second type may be used where the first is the parent type: they are equal, or some object type is
+  -- possible for both
   abbrev pub MayApply : List ℕ → List ℕ → Type 0
   MayApply parent condition = (condition ≡ parent) ⊎ ((object : List ℕ) × (CanBe parent object × CanBe condition object))

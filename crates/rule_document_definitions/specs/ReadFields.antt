@@ -1,13 +1,13 @@
--- What merging reads of a field and of a selection set, as plain data: of the field its parent type, response key, name, arguments,
--- the type of its definition and what its own set selects, of the set its fields and spreads, with those of its inline fragments
--- where they stand (GraphQL, October 2021, section 5.3.2). No place and no directive is read, nor more of a definition.
+-- What merging reads of a field and of a selection set, as plain data: of a field its parent type, response key, name, arguments, the type
+-- of its definition and what its own set selects; of a set its fields and spreads, those of its inline fragments included, in the order of
+-- the text (GraphQL, October 2021, section 5.3.2). Places, directives and the rest of a definition are not read.
 use Rattle.std.specs.Prelude.{◌≡◌, ◌⊎◌, ℕ, List, [], ◌∷◌, map, Some, unwrap_or, Contains}
 use Rattle.graphql_names.specs.Placed.{Place}
 use Rattle.tree_literals.specs.TypeTree.{TypeTree}
 use Rattle.tree_directives.specs.DirectiveTree.{Arguments, unplaced_arguments}
 use Rattle.tree_operations.specs.SelectionTree.{FieldHead}
-use Rattle.document_meaning.specs.in_components.Names.{Entries}
-use Rattle.document_meaning.specs.MeantTree.{Definition, MeantSelection, MeantField, MeantSpread, MeantInline, MeantSet, meant_set, MeantSelections, no_meant, meant_then, MeantOperation, MeantDocument}
+use Rattle.spec_document.specs.in_components.Names.{Entries}
+use Rattle.spec_document.specs.MeantTree.{Definition, MeantSelection, MeantField, MeantSpread, MeantInline, MeantSet, meant_set, MeantSelections, no_meant, meant_then, MeantOperation, MeantDocument}
 use Rattle.rule_definitions.specs.Judged.{Judged}
 use Rattle.rule_definitions.specs.in_schema_types.Addresses.{under}
 use Rattle.rule_document_definitions.specs.Selected.{StandingField}
@@ -29,7 +29,7 @@ mutual
   pub data ReadField : Type 0 where
     read_field : ReadHead → ReadSet → ReadField
 
-  -- a set without selections, or one of these fields and spreads
+  -- a set without selections, or the fields and spreads of a set
   pub data ReadSet : Type 0 where
     nothing_read : ReadSet
     read_set : ReadFields → List (List ℕ) → ReadSet
@@ -54,7 +54,7 @@ abbrev pub joined : ReadFields → ReadFields → ReadFields
 joined no_reads gs = gs
 joined (read_then f fs) gs = read_then f (joined fs gs)
 
--- the fields of a set, and the names of the fragments that it spreads
+-- the fields of a set; below, the names of the fragments that it spreads
 abbrev pub fields_in : ReadSet → List ReadField
 fields_in nothing_read = []
 fields_in (read_set fs ns) = listed fs
@@ -68,7 +68,7 @@ spreads_in (read_set fs ns) = ns
 abbrev pub head_read : {P : Type 0} → List ℕ → Definition → FieldHead P → ReadHead
 head_read t d h = record { parent = t; key = (unwrap_or h.alias h.name).it; name = h.name.it; arguments = unplaced_arguments h.arguments; ty = d.ty }
 
--- a set, of which these are the fields
+-- the set, whose fields are these
 abbrev pub whole_set : {P : Type 0} → MeantSet P → ReadFields → ReadSet
 whole_set (meant_set t no_meant) fs = nothing_read
 whole_set (meant_set t (meant_then s ss)) fs = read_set fs (spreads_written (meant_set t (meant_then s ss)))
@@ -90,7 +90,7 @@ module _ {P : Type 0} where
   abbrev pub set_read : MeantSet P → ReadSet
   set_read s = whole_set s (fields_read s)
 
-  -- the same of any set: one without selections is read as no fields and no spreads
+  -- as `set_read`, but a set without selections is read as one with no fields and no spreads
   abbrev pub list_read : MeantSet P → ReadSet
   list_read s = read_set (fields_read s) (spreads_written s)
 
@@ -121,20 +121,20 @@ ReadSameNameAndArguments x y = ReadSameName x y × SameArguments (head_of x).arg
 -- ---- chains
 
 module _ (fragments : Entries ReadSet) where
-  -- the set spreads a fragment whose set this is
+  -- t is the set of a fragment that s spreads
   abbrev pub SpreadsRead : ReadSet → ReadSet → Type 0
   SpreadsRead s t = (n : List ℕ) × (Contains (spreads_in s) n × (under n fragments ≡ Some t))
 
-  -- spreads lead from the set to this one: the least sets with the set itself, and those of the fragments that each spreads
+  -- the sets to which spreads lead from s: the least set with s itself and, of each member, the sets of the fragments that it spreads
   abbrev pub IsReadFrom : ReadSet → ReadSet → Type 0
   IsReadFrom s = Closed (λ t. t ≡ s) SpreadsRead
 
-  -- the field is among those of a set to which spreads lead
+  -- x is a field of a set to which spreads lead from s
   abbrev pub SelectsRead : ReadSet → ReadField → Type 0
   SelectsRead s x = (t : ReadSet) × (IsReadFrom s t × Contains (fields_in t) x)
 
 module _ {P : Type 0} (d : MeantDocument P) where
-  -- the second is one of what the set of the first selects, of the operation's own: through fragments
+  -- y is a field that x selects, through fragments; below, one that the operation o selects
   abbrev pub ReadBelow : ReadField → ReadField → Type 0
   ReadBelow x y = SelectsRead (fragments_read d) (set_of x) y
 
@@ -142,16 +142,16 @@ module _ {P : Type 0} (d : MeantDocument P) where
   ReadStarts o y = SelectsRead (fragments_read d) (set_read o.set) y
 
   module _ (s : Judged) where
-    -- fields that stand together are settled: by keys, in shape
+    -- fields for which `Stand` holds are settled: by keys, in shape
     abbrev pub AreReadShapesStanding : (ReadField → ReadField → Type 0) → Type 0
     AreReadShapesStanding Stand = IsSettledIn ReadBelow ReadSameKey (ReadSameShape s) Stand
 
-    -- by keys and parents, in name and arguments
+    -- the same by keys and parents, in name and arguments
     abbrev pub AreReadSelectionsStanding : (ReadField → ReadField → Type 0) → Type 0
     AreReadSelectionsStanding Stand = IsSettledIn ReadBelow (ReadMayShare s) ReadSameNameAndArguments Stand
 
--- where fields that go together and are in one of these lists are settled by what is read of them, and all that starts stands with all
--- that starts and goes together with it, the fields merge
+-- if fields that go together and are in one of these lists are settled by what is read of them, and any two root fields that go together
+-- are in one of them, the fields merge
 abbrev pub ReadFieldsMerge : Type 0
 ReadFieldsMerge = (s : Judged) (d : MeantDocument Place) (o : MeantOperation Place) (shapes selections : List (List ReadField))
     → AreReadShapesStanding d s (StandWhere ReadSameKey shapes) → StartsStand (ReadStarts d o) (StandWhere ReadSameKey shapes)

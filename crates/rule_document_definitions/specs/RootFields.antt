@@ -1,6 +1,6 @@
 -- The fields at the root of an operation (GraphQL, October 2021, section 5.2.3.1), and the names of the meta-fields.
 use Rattle.std.specs.Prelude.{◌↔◌, ℕ, List, [], ◌∷◌, codes, Contains}
-use Rattle.document_meaning.specs.MeantTree.{MeantOperation, MeantDocument}
+use Rattle.spec_document.specs.MeantTree.{MeantOperation, MeantDocument}
 use Rattle.rule_cycle_search.specs.Paths.{HasNoRepeat}
 use Rattle.rule_document_definitions.specs.Selected.{InOperation, StandingField, operation_name}
 use Rattle.rule_document_definitions.specs.Reached.{IsFieldOf}

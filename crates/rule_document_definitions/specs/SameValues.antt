@@ -1,24 +1,24 @@
--- When two values are the same in merging: by their text, wherever they are written (GraphQL, October 2021, section 5.3.2).
+-- When two values are the same in merging, wherever they are written (GraphQL, October 2021, section 5.3.2).
 use Rattle.std.specs.Prelude.{ℕ, List, Option, None, Some, option_map}
 use Rattle.tree_literals.specs.ValueTree.{ValueTree, ItemTrees, EntryTrees, NullTree, EnumTree, VariableTree, StringTree, FloatTree, IntTree, BooleanTree, ListTree, ObjectTree, no_items, item_then, unplaced_value}
 use Rattle.tree_directives.specs.DirectiveTree.{Arguments}
 use Rattle.tree_directives.specs.DirectiveQueries.{given_value}
 use Rattle.rule_definitions.specs.GivenValues.{entry_named}
 
--- values, items and entries without places
+-- values without places
 abbrev pub Plain : Type 0
 Plain = ValueTree (Unit {0})
 
--- what an object has under a key, the first if there are more
+-- the value of the first entry of an object with the key
 abbrev pub under_key : List ℕ → EntryTrees (Unit {0}) → Option Plain
 under_key key es = option_map (λ v. v.it) (entry_named key es)
 
--- what is given for an argument, the first if there are more
+-- the value that is given for an argument, the first if there are several
 abbrev pub plain_given : {P : Type 0} → List ℕ → Arguments P → Option Plain
 plain_given n given = option_map (λ v. unplaced_value v.it) (given_value n given)
 
 mutual
-  -- numbers by their digits, strings by their value, objects by the first of each key
+  -- numbers by their digits, strings by their value, objects by the first entry of each key
   pub data SameValue : Plain → Plain → Type 0 where
     same_null : SameValue NullTree NullTree
     same_enum : (a : _) → SameValue (EnumTree a) (EnumTree a)
@@ -35,11 +35,11 @@ mutual
     no_more : SameItems no_items no_items
     both_then : (v w : Plain) (vs ws : ItemTrees (Unit {0})) → SameValue v w → SameItems vs ws → SameItems (item_then tt v vs) (item_then tt w ws)
 
-  -- given on both sides, or on neither
+  -- given with the same value on both sides, or on neither
   pub data SameGiven : Option Plain → Option Plain → Type 0 where
     neither : SameGiven None None
     both : (v w : Plain) → SameValue v w → SameGiven (Some v) (Some w)
 
--- for every name the first argument of it has the same value
+-- for every name, the first arguments of that name have the same value, or neither list has one
 abbrev pub SameArguments : {P : Type 0} → Arguments P → Arguments P → Type 0
 SameArguments a b = (n : List ℕ) → SameGiven (plain_given n a) (plain_given n b)

@@ -1,4 +1,4 @@
--- Selections where they stand in a kept document (GraphQL, October 2021, sections 2.3 to 2.8).
+-- Selections with their positions in a kept document (GraphQL, October 2021, sections 2.3 to 2.8).
 use Rattle.std.specs.Prelude.{ℕ, suc, List, [], ◌∷◌, ◌++◌, map, flat_map, Option, None, Some, unwrap_or}
 use Rattle.std.specs.List.{cons_option}
 use Rattle.std.specs.Option.{option_map}
@@ -7,21 +7,21 @@ use Rattle.tree_directives.specs.declared.directive_location.DirectiveLocation.{
 use Rattle.tree_directives.specs.declared.directive_location.DirectiveLocation.TheVariants as location
 use Rattle.tree_operations.specs.SelectionTree.{FieldHead}
 use Rattle.rule_definitions.specs.in_schema_types.Addresses.{under}
-use Rattle.document_meaning.specs.MeantTree.{Definition, MeantSelection, MeantField, MeantSpread, MeantInline, MeantSet, meant_set, MeantSelections, no_meant, meant_then, MeantOperation, MeantFragment, MeantDocument}
+use Rattle.spec_document.specs.MeantTree.{Definition, MeantSelection, MeantField, MeantSpread, MeantInline, MeantSet, meant_set, MeantSelections, no_meant, meant_then, MeantOperation, MeantFragment, MeantDocument}
 
--- where a selection is, by the order of the text: two selections are one where this is the same
+-- the position of a selection: by indices, from an operation or fragment down; selections of a document with one position are the same selection
 pub data Position : Type 0 where
   InOperation : (name : Option (List ℕ)) → Position
   InFragment : (name : List ℕ) → Position
   SelectionAt : (holder : Position) (index : ℕ) → Position
 
--- a selection, where it is, and the name of the type of its set
+-- a selection, its position, and the name of the type of its set (the parent type)
 pub record Standing (P : Type 0) : Type 0 where
   pub position : Position
   pub parent : List ℕ
   pub it : MeantSelection P
 
--- a field where it stands
+-- a field with its position
 pub record StandingField (P : Type 0) : Type 0 where
   pub position : Position
   pub parent : List ℕ
@@ -30,7 +30,7 @@ pub record StandingField (P : Type 0) : Type 0 where
   pub head : FieldHead P
   pub set : MeantSet P
 
--- a set has no selection
+-- the set has no selection
 abbrev pub HasNone : {P : Type 0} → MeantSet P → Type 0
 HasNone (meant_set t no_meant) = Unit {0}
 HasNone _ = ⊥
@@ -44,7 +44,7 @@ module _ {P : Type 0} where
   abbrev pub standing_in : Position → MeantSet P → List (Standing P)
   standing_in holder (meant_set t ss) = stand holder t 0 ss
 
-  -- the same and those at any depth in them, in the order of the text, fragments not entered
+  -- these and the selections at any depth in them, in the order of the text; fragments that are spread are not entered
   abbrev mutual
     pub all_in : Position → MeantSet P → List (Standing P)
     all_in holder (meant_set t ss) = all_from holder t 0 ss
@@ -71,32 +71,32 @@ module _ {P : Type 0} where
   selection_directives (MeantSpread p n ds) = ds
   selection_directives (MeantInline p c ds s) = ds
 
-  -- where its directives stand
+  -- the location of its directives
   abbrev pub selection_location : MeantSelection P → DirectiveLocation
   selection_location (MeantField p d h s) = location.Field
   selection_location (MeantSpread p n ds) = location.FragmentSpread
   selection_location (MeantInline p c ds s) = location.InlineFragment
 
-  -- the name that a spread has
+  -- the name of the fragment, if the selection is a spread
   abbrev pub spread_name : MeantSelection P → Option (List ℕ)
   spread_name (MeantSpread p n ds) = Some n.it
   spread_name _ = None
 
-  -- the condition that an inline fragment has
+  -- the type condition, if the selection is an inline fragment that has one
   abbrev pub inline_condition : MeantSelection P → Option (List ℕ)
   inline_condition (MeantInline p c ds s) = option_map (λ n. n.it) c
   inline_condition _ = None
 
-  -- private: the field that a selection is, there under that type
+  -- private: the selection as a field with that position and that parent type, if it is a field
   abbrev pub field_there : Position → List ℕ → MeantSelection P → Option (StandingField P)
   field_there at t (MeantField p d h s) = Some (record { position = at; parent = t; place = p; definition = d; head = h; set = s })
   field_there at t _ = None
 
-  -- the selection, if it is a field
+  -- the selection as a field, if it is one
   abbrev pub as_field : Standing P → Option (StandingField P)
   as_field x = field_there x.position x.parent x.it
 
-  -- what stands in it, if it is an inline fragment
+  -- the selections in it, if it is an inline fragment
   abbrev pub in_inline : Position → MeantSelection P → List (Standing P)
   in_inline at (MeantInline p c ds s) = standing_in at s
   in_inline at _ = []
@@ -121,7 +121,7 @@ module _ {P : Type 0} where
   abbrev pub operation_name : MeantOperation P → Option (List ℕ)
   operation_name o = option_map (λ n. n.it) o.name
 
-  -- the selections of an operation itself, of a fragment itself
+  -- the selections of an operation itself; below, of a fragment itself
   abbrev pub own : MeantOperation P → List (Standing P)
   own o = standing_in (InOperation (operation_name o)) o.set
 

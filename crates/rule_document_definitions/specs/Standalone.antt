@@ -1,7 +1,7 @@
 -- The rules on a document without a schema (GraphQL, October 2021, sections 5.4.2, 5.5, 5.6.3, 5.7.1 and 5.8).
 use Rattle.std.specs.Prelude.{false, [], None, ◌⊎◌}
 use Rattle.tree_directives.specs.DirectiveTree.{Arguments, Directives}
-use Rattle.document_meaning.specs.MeantTree.{MeantOperation, MeantDocument}
+use Rattle.spec_document.specs.MeantTree.{MeantOperation, MeantDocument}
 use Rattle.rule_definitions.specs.Words.{AtSomeIndex}
 use Rattle.rule_definitions.specs.Faults.{FaultAt}
 use Rattle.rule_definitions.specs.Judged.{Judged}
@@ -25,15 +25,15 @@ no_schema = record {
 }
 
 module _ {P E : Type 0} (places : Places P) (d : MeantDocument P) (fault : FaultAt P E) where
-  -- UniqueArgument and UniqueInputValue, of what is given as arguments
+  -- UniqueArgument or UniqueInputValue is broken by given arguments, with this fault
   abbrev pub GivenBreaksAlone : Arguments P → Type 0
   GivenBreaksAlone given = UniqueArgumentAt places.at no_schema [] given fault ⊎ AtSomeIndex given (λ i a. UniqueInputValueIn a.it.value.it fault)
 
-  -- the same of directives that are used at one place, and UndefinedDirective: no directive is defined
+  -- one of these rules is broken by directives at one place, or UndefinedDirective, as no directive is defined
   abbrev pub UsesBreakAlone : Directives P → Type 0
   UsesBreakAlone ds = AtSomeIndex ds (λ i e. UndefinedDirectiveAt places.at no_schema [] e fault ⊎ GivenBreaksAlone e.it.arguments)
 
-  -- of an operation, its variables, and what it reaches
+  -- one of these rules is broken in an operation, by its variables, or by what it reaches
   abbrev pub GivenInBreaks : MeantOperation P → Type 0
   GivenInBreaks o =
       UsesBreakAlone o.directives
@@ -47,7 +47,7 @@ module _ {P E : Type 0} (places : Places P) (d : MeantDocument P) (fault : Fault
       UniqueVariableAt o fault ⊎ (UniqueDefaultKeyAt o fault ⊎ (UnusedVariableAt o fault places d
       ⊎ (UndefinedFragmentAt d fault o ⊎ (RecursiveFragmentDefinitionAt d fault places o ⊎ GivenInBreaks o))))
 
--- one of these rules, or one on `@defer`, fails, and this tells it
+-- one of these rules, or one on `@defer`, is broken, with this fault
 abbrev pub StandaloneFails : {P E : Type 0} → Places P → MeantDocument P → DocumentFault P E → Type 0
 StandaloneFails places d (OfData fault) = AtOperation d (λ o. OperationBreaksAlone places d fault o) ⊎ UnusedFragmentAt d fault
 StandaloneFails places d (OfDocument fault) = DeferredBreaks d fault

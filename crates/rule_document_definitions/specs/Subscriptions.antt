@@ -1,8 +1,8 @@
--- Rules on the root of a subscription (GraphQL, October 2021, section 5.2.3.1; that none of its selections is conditional is past it).
+-- Rules on the root of a subscription (GraphQL, October 2021, section 5.2.3.1; that edition has no rule against conditional selections).
 use Rattle.std.specs.Prelude.{◌≡◌, ◌<◌, List, [], ◌∷◌, length, codes, Contains, ◌⊎◌}
 use Rattle.tree_directives.specs.declared.operation_type.OperationType.TheVariants as operation
-use Rattle.document_meaning.specs.MeantTree.{MeantOperation, MeantDocument}
-use Rattle.fault_document_data.specs.DocumentBreaches.{SubscriptionUsesMultipleFields, SubscriptionUsesIntrospection, SubscriptionUsesConditionalSelection}
+use Rattle.spec_document.specs.MeantTree.{MeantOperation, MeantDocument}
+use Rattle.fault_document_errors.specs.DocumentBreaches.{SubscriptionUsesMultipleFields, SubscriptionUsesIntrospection, SubscriptionUsesConditionalSelection}
 use Rattle.rule_definitions.specs.Words.{AtSomeIndex}
 use Rattle.rule_definitions.specs.Names.{directive_name}
 use Rattle.rule_document_definitions.specs.DocumentFaults.{Broken, broken}
@@ -27,7 +27,7 @@ module _ {P : Type 0} (d : MeantDocument P) (o : MeantOperation P) (fault : Brok
   SubscriptionUsesConditionalSelectionAt = (x : Standing P) × (AtRoot d o x × AtSomeIndex (selection_directives x.it) (λ i e.
       Contains (codes "skip" ∷ codes "include" ∷ []) (directive_name e) × (fault ≡ broken e.place (SubscriptionUsesConditionalSelection (operation_name o)))))
 
-  -- a rule on subscriptions fails so
+  -- a rule on subscriptions is broken, with this fault
   abbrev pub SubscriptionBreaks : Type 0
   SubscriptionBreaks = (o.operation_type ≡ operation.Subscription)
       × (SubscriptionUsesMultipleFieldsAt ⊎ (SubscriptionUsesIntrospectionAt ⊎ SubscriptionUsesConditionalSelectionAt))

@@ -1,17 +1,17 @@
--- Where the variables of an operation stand (GraphQL, October 2021, section 5.8.4), and the type that each has.
+-- Which variables an operation uses (GraphQL, October 2021, section 5.8.4), and the type that each has.
 use Rattle.std.specs.Prelude.{◌≡◌, ℕ, List, ◌⊎◌}
 use Rattle.tree_literals.specs.TypeTree.{unplaced_type}
 use Rattle.tree_literals.specs.ValueTree.{ValueTree, ItemTrees, EntryTrees, VariableTree, ListTree, ObjectTree, no_items, item_then, no_entries, entry_then}
 use Rattle.tree_directives.specs.DirectiveTree.{Arguments, Directives}
 use Rattle.tree_operations.specs.OperationTree.{VariableDefinitionTree}
-use Rattle.document_meaning.specs.MeantTree.{MeantOperation, MeantDocument}
+use Rattle.spec_document.specs.MeantTree.{MeantOperation, MeantDocument}
 use Rattle.rule_definitions.specs.Words.{Present, AtSomeIndex}
 use Rattle.rule_definitions.specs.GivenValues.{Wanted}
 use Rattle.rule_document_definitions.specs.Selected.{Standing, as_field, selection_directives}
 use Rattle.rule_document_definitions.specs.Reached.{AtReached, AtReachedFragment}
 
 module _ {P : Type 0} (n : List ℕ) where
-  -- the variable stands in a value, at any depth
+  -- the variable n is in a value, at any depth
   abbrev mutual
     pub StandsInValue : ValueTree P → Type 0
     StandsInValue (VariableTree v) = v.it ≡ n

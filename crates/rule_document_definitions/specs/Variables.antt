@@ -3,7 +3,7 @@ use Rattle.std.specs.Prelude.{◌≡◌, true, false, [], None, ◌⊎◌}
 use Rattle.tree_literals.specs.TypeTree.{unplaced_type}
 use Rattle.tree_directives.specs.declared.directive_location.DirectiveLocation.TheVariants as location
 use Rattle.rule_definitions.specs.in_schema_types.SchemaTree.{kind_words, is_input_kind}
-use Rattle.document_meaning.specs.MeantTree.{MeantOperation, MeantDocument}
+use Rattle.spec_document.specs.MeantTree.{MeantOperation, MeantDocument}
 use Rattle.rule_definitions.specs.Diagnostics.{UndefinedDefinition, UniqueVariable, VariableInputType, UnusedVariable}
 use Rattle.rule_definitions.specs.Words.{Present, AtSomeIndex, Repeats}
 use Rattle.rule_definitions.specs.Faults.{FaultAt, wrong}
@@ -15,7 +15,7 @@ use Rattle.rule_definitions.specs.Uses.{UsesBreak}
 use Rattle.rule_document_definitions.specs.Places.{Places}
 use Rattle.rule_document_definitions.specs.UsedVariables.{IsUsedIn, wanted_by}
 
--- ---- rules that ask nothing of a schema
+-- ---- rules that need no schema
 
 module _ {P E : Type 0} (o : MeantOperation P) (fault : FaultAt P E) where
   -- UniqueVariable: an operation is valid only if its variables differ in name (section 5.8.1)
@@ -45,17 +45,18 @@ module _ {P E : Type 0} (s : Judged) (o : MeantOperation P) (fault : FaultAt P E
   VariableInputTypeAt = AtSomeIndex o.variables (λ i x. Present (s.type_named (wanted_name (wanted_by x.it))) (λ t.
       (is_input_kind t.kind ≡ false) × (fault ≡ wrong x.place (VariableInputType (defined_name x) (unplaced_type x.it.ty.it) (kind_words t.kind)))))
 
-  -- the rules on values, of a default against the variable's type, where that is an input type (section 5.6.1); a default has no variables
+  -- a rule on values is broken by a default, judged against the variable's type, if that is an input type (section 5.6.1); a default has no
+  -- variables
   abbrev pub DefaultValueBreaks : Places P → Type 0
   DefaultValueBreaks places = AtSomeIndex o.variables (λ i x.
       Present (s.type_named (wanted_name (wanted_by x.it))) (λ t. is_input_kind t.kind ≡ true)
       × Present x.it.default_value (λ v. ValueBreaks places.at s [] (wanted_by x.it) v.place v.it fault))
 
-  -- the rules on uses, of the directives of a variable (section 5.7)
+  -- a rule on the use of directives is broken by those of a variable (section 5.7)
   abbrev pub VariableDirectivesBreak : Places P → Type 0
   VariableDirectivesBreak places = AtSomeIndex o.variables (λ i x. UsesBreak places.at s [] location.VariableDefinition x.it.directives fault)
 
--- a rule on variables fails so
+-- a rule on variables is broken, with this fault
 abbrev pub VariablesBreak : {P E : Type 0} → Places P → Judged → MeantDocument P → MeantOperation P → FaultAt P E → Type 0
 VariablesBreak places s d o fault =
     UniqueVariableAt o fault ⊎ (UniqueDefaultKeyAt o fault ⊎ (UnusedVariableAt o fault places d

@@ -1,6 +1,7 @@
--- The verdict: which documents keep the rules. Places do not count, so it is asked of a document without them.
+-- The verdict: which documents keep the rules. It does not depend on places, so it is defined for documents
+-- without them.
 use Rattle.std.specs.Prelude.{Contains}
-use Rattle.document_meaning.specs.MeantTree.{MeantSet, MeantOperation, MeantDocument}
+use Rattle.spec_document.specs.MeantTree.{MeantSet, MeantOperation, MeantDocument}
 use Rattle.rule_definitions.specs.Judged.{Judged}
 use Rattle.rule_document_definitions.specs.Places.{Places}
 use Rattle.rule_document_definitions.specs.DocumentFaults.{DocumentFault}
@@ -11,7 +12,7 @@ use Rattle.rule_document_definitions.specs.Limits.{BoundFails}
 use Rattle.rule_document_definitions.specs.FieldSets.{FieldSetFails, FieldSetBoundFails}
 use Rattle.rule_document_definitions.specs.Standalone.{StandaloneFails}
 
--- nothing stands for a place
+-- no places: each is the unit value
 abbrev pub no_places : Places (Unit {0})
 no_places = record { at = λ a. tt; Spans = λ from to whole. Unit {0}; nowhere = tt }
 
@@ -31,7 +32,7 @@ module _ (s : Judged) (d : MeantDocument (Unit {0})) where
 abbrev pub WithinBounds : MeantDocument (Unit {0}) → Type 0
 WithinBounds d = (fault : UnplacedFault) → BoundFails no_places d fault → ⊥
 
--- every rule on field sets holds; the bound is not passed
+-- every rule on field sets holds; below, the bound is not passed
 abbrev pub FieldSetRules : Judged → MeantSet (Unit {0}) → Type 0
 FieldSetRules s set = (fault : UnplacedFault) → FieldSetFails no_places s set fault → ⊥
 

@@ -1,7 +1,7 @@
--- What is written in a selection set: its selections and those of its inline fragments, at any depth, in the order of the text (GraphQL, October 2021, sections 2.4 and 2.8).
--- What a spread names is written elsewhere: in a set to which spreads lead.
+-- What is written in a selection set: its selections and those of its inline fragments, at any depth, in the order of the text (GraphQL,
+-- October 2021, sections 2.4 and 2.8). The selections of a fragment that is spread are not among them.
 use Rattle.std.specs.Prelude.{ℕ, List, [], ◌∷◌, ◌++◌, flat_map, option_to_list}
-use Rattle.document_meaning.specs.MeantTree.{MeantSelection, MeantField, MeantSpread, MeantInline, MeantSet, meant_set, MeantSelections, no_meant, meant_then}
+use Rattle.spec_document.specs.MeantTree.{MeantSelection, MeantField, MeantSpread, MeantInline, MeantSet, meant_set, MeantSelections, no_meant, meant_then}
 use Rattle.rule_document_definitions.specs.Selected.{spread_name}
 
 -- a selection, and the name of the type of the set in which it is
@@ -22,7 +22,7 @@ abbrev mutual
   written_along t (meant_then s ss) = written_at t s ++ written_along t ss
 
 module _ {P : Type 0} where
-  -- the name that is spread, if it is a spread
+  -- the name of the fragment, if the selection is a spread
   abbrev pub spread_written : Written P → List (List ℕ)
   spread_written e = option_to_list (spread_name e.1)
 

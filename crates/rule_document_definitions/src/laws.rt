@@ -15,13 +15,13 @@ pub fn equal_documents_same_verdict()
     ensures alone { SameVerdictAlone }
 {}
 
-/// The fields of an operation merge exactly if the contents of fields do, in the document without places.
+/// The fields of an operation merge exactly when the contents of fields do, in the document without places.
 pub fn merging_is_of_contents()
     ensures { MergesByContents }
 {}
 
-/// What breaks a rule or passes a bound is told at places exactly as it is told without them. Rules that are about all
-/// fragments ask that each fragment stands under its own name.
+/// The broken rules and passed bounds that are told at places are exactly those that are told without them. For rules
+/// about all fragments this needs that each fragment is stored under its own name.
 pub fn told_without_places()
     ensures rules { RulesWithoutPlaces }
     ensures merging { MergingWithoutPlaces }
@@ -31,7 +31,8 @@ pub fn told_without_places()
     ensures field_set_bounds { SetBoundsWithoutPlaces }
 {}
 
-/// Exactly what is valid breaks no rule at any place, and exactly what is within the bounds passes none at any place.
+/// What is valid is exactly what breaks no rule at any place, and what is within the bounds exactly what passes none at
+/// any place.
 pub fn valid_where_nothing_is_told()
     ensures documents { ValidWhereNothingIsTold }
     ensures merging { MergesWhereNothingIsTold }
@@ -41,19 +42,19 @@ pub fn valid_where_nothing_is_told()
     ensures field_set_bounds { SetWithinBoundsWhereNothingIsTold }
 {}
 
-/// Where the lists of contents are settled, those by keys in shape and those by keys and parents in name and arguments, and
-/// have all that starts, the fields of an operation merge (GraphQL, October 2021, section 5.3.2).
+/// If lists of contents are settled, those by keys in shape and those by keys and parents in name and arguments, and
+/// one list of each kind has all root fields, the fields of an operation merge (GraphQL, October 2021, section 5.3.2).
 pub fn settled_fields_merge()
     ensures { SettledFieldsMerge }
 {}
 
-/// Where fields that go together and are in one list are settled, those by keys in shape and those by keys and parents in name and
-/// arguments, and all that starts stands with all that starts and goes together with it, the fields of an operation merge.
+/// If fields that go together and are in one list are settled, those by keys in shape and those by keys and parents in
+/// name and arguments, and any two root fields that go together are in one list, the fields of an operation merge.
 pub fn standing_fields_merge()
     ensures { StandingFieldsMerge }
 {}
 
-/// The same where the lists have what merging reads of fields, and no more of them.
+/// The same for lists that have only what merging reads of fields.
 pub fn read_fields_merge()
     ensures { ReadFieldsMerge }
 {}
@@ -65,12 +66,12 @@ pub fn fields_of_lists_meet()
     ensures breaks { GoingBreaks }
 {}
 
-/// A field at the end of a chain that is longer than the bound passes the bound.
+/// If a field is at the end of a chain that is longer than the bound, its operation passes the bound.
 pub fn long_chains_pass_the_bound()
     ensures { LongChainsPassTheBound }
 {}
 
-/// To have one shape, and to have one name and the same arguments, are equivalences: so fields that agree with one field agree.
+/// Having one shape, and having one name and the same arguments, are equivalences: so fields that agree with one field agree.
 pub fn agreeing_is_an_equivalence()
     ensures shapes { ShapesAgreeAsEquals }
     ensures selections { SelectionsAgreeAsEquals }

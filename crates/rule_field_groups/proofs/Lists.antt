@@ -7,11 +7,11 @@ use Rattle.std.proofs.lemmas.List.{take_more, length_push, get_or_append_left}
 use Rattle.std.proofs.lemmas.List.Elements.{Contains-append_right, Contains-get_or}
 use Rattle.std.proofs.lemmas.Option.{slice_get_within, slice_get-get_or, get_or_from_slice_get}
 use Rattle.std.proofs.Math.Seq.{get_or-append_seam}
-use Rattle.rule_same_values.proofs.in_definitions.in_schema_types.in_components.Places.{Contains-rest}
-use Rattle.rule_same_values.proofs.in_definitions.Lists.{not_in_nil, Contains-cons, Contains-first}
+use Rattle.rule_selection_queries.proofs.in_definitions.in_schema_types.in_components.Places.{Contains-rest}
+use Rattle.rule_selection_queries.proofs.in_definitions.Lists.{not_in_nil, Contains-cons, Contains-first}
 use Rattle.rule_cycle_search.specs.Paths.{HasNoRepeat}
-use Rattle.rule_same_values.specs.in_document_definitions.ReadFields.{ReadField, field_read}
-use Rattle.rule_same_values.proofs.in_document_definitions.Unplaced.{contains_map, contains_unmap}
+use Rattle.rule_selection_queries.specs.in_document_definitions.ReadFields.{ReadField, field_read}
+use Rattle.rule_selection_queries.proofs.in_document_definitions.Unplaced.{contains_map, contains_unmap}
 use Rattle.rule_field_sets.specs.declared.member.Member.{Member}
 use Rattle.rule_field_groups.specs.Members.{field_of, fields_of, content_of, contents_of}
 

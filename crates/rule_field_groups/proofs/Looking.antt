@@ -4,18 +4,18 @@ use Rattle.std.proofs.lemmas.List.{length-append, map-append, take_more}
 use Rattle.std.proofs.lemmas.List.Elements.{Contains-append_left, Contains-append_right, Contains-append_cases}
 use Rattle.std.proofs.lemmas.List.Sorted.{length_permutation, IsPermutation-sym, Contains-permutation}
 use Rattle.graphql_names.specs.Placed.{Place}
-use Rattle.rule_same_values.specs.in_meaning.MeantTree.{MeantSet}
+use Rattle.rule_selection_queries.specs.in_spec_document.MeantTree.{MeantSet}
 use Rattle.rule_cycle_search.proofs.Lists.{not_in_nil, only, Contains-cons, Contains-first}
-use Rattle.rule_number_lists.specs.NumberLists.{HaveSame}
-use Rattle.rule_number_lists.proofs.Standing.{in_map, of_map, same_order}
-use Rattle.rule_number_lists.proofs.Few.{in_rest}
-use Rattle.rule_number_lists.proofs.Rows.{exchanged_two}
-use Rattle.rule_same_values.specs.in_document_definitions.ReadFields.{ReadSet}
+use Rattle.list_interner.specs.NumberLists.{HaveSame}
+use Rattle.list_interner.proofs.Standing.{in_map, of_map, same_order}
+use Rattle.list_interner.proofs.Few.{in_rest}
+use Rattle.list_interner.proofs.Rows.{exchanged_two}
+use Rattle.rule_selection_queries.specs.in_document_definitions.ReadFields.{ReadSet}
 use Rattle.rule_field_sets.specs.Read.{set_at}
 use Rattle.rule_field_sets.specs.declared.field_sets.FieldSets.{FieldSets}
-use Rattle.rule_field_groups.specs.declared.remembered.Pair.{Pair}
+use Rattle.rule_field_groups.specs.declared.merge_state.Pair.{Pair}
 use Rattle.rule_field_groups.specs.Members.{read_sets}
-use Rattle.rule_field_groups.specs.Remembered.{Kept, HasLooked, LooksAt, two_of}
+use Rattle.rule_field_groups.specs.MergeState.{Kept, HasLooked, LooksAt, two_of}
 use Rattle.rule_field_groups.specs.Under.{Sets}
 use Rattle.rule_field_groups.specs.Pairs.{AreTwosOf}
 use Rattle.rule_field_groups.specs.Pairs.{Looks, each_with}

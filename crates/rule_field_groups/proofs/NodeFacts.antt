@@ -10,23 +10,23 @@ use Rattle.graphql_names.specs.Node.{content}
 use Rattle.graphql_names.specs.Placed.{Place, Placed, node_tree}
 use Rattle.graphql_names.specs.declared.node.Node.{Node}
 use Rattle.schema_types.specs.TypeView.{name_text}
-use Rattle.rule_same_values.specs.in_meaning.MeantTree.{MeantSet, MeantFragment, MeantDocument, meant_of_set}
-use Rattle.rule_field_sets.specs.in_ground.in_typed_operations.DocumentView.{meant_by_fragment}
-use Rattle.rule_field_sets.specs.in_ground.in_typed_operations.TypedDocument.{TypedFragment, typed_fragment_tree}
-use Rattle.rule_field_sets.specs.in_ground.in_typed_operations.declared.operation.Fragment.{Fragment}
+use Rattle.rule_selection_queries.specs.in_spec_document.MeantTree.{MeantSet, MeantFragment, MeantDocument, meant_of_set}
+use Rattle.rule_field_sets.specs.in_reach.in_typed_operations.DocumentView.{meant_by_fragment}
+use Rattle.rule_field_sets.specs.in_reach.in_typed_operations.TypedDocument.{TypedFragment, typed_fragment_tree}
+use Rattle.rule_field_sets.specs.in_reach.in_typed_operations.declared.operation.Fragment.{Fragment}
 use Rattle.document_typed_selections.specs.TypedTree.{TypedSet, typed_set_tree}
-use Rattle.rule_same_values.specs.in_definitions.in_schema_types.Addresses.{under}
-use Rattle.rule_same_values.proofs.in_definitions.Lists.{not_in_nil, Contains-first, only, mapped_some}
-use Rattle.rule_same_values.specs.in_document_definitions.Selected.{InOperation, StandingField}
-use Rattle.rule_same_values.specs.in_document_definitions.Reached.{Closed, first, next}
-use Rattle.rule_same_values.specs.in_document_definitions.Written.{spreads_written}
-use Rattle.rule_same_values.proofs.in_document_definitions.FieldsWritten.{fields_written, SpreadsSet, IsSetFrom, HasContent}
-use Rattle.rule_same_values.specs.in_document_definitions.PlainFields.{IsSelected}
-use Rattle.rule_same_values.specs.in_document_definitions.ReadFields.{ReadField, ReadSet, listed, fields_read, fields_in, spreads_in, field_read, list_read}
-use Rattle.rule_same_values.proofs.in_document_definitions.Unplaced.{contains_map, contains_unmap, closed_map, closed_unmap}
-use Rattle.rule_same_values.proofs.in_document_definitions.ReadFacts.{read_written}
-use Rattle.rule_same_values.proofs.in_document_definitions.WrittenFacts.{written_from}
-use Rattle.rule_field_sets.specs.in_ground.Fields.{meant_fragments}
+use Rattle.rule_selection_queries.specs.in_definitions.in_schema_types.Addresses.{under}
+use Rattle.rule_selection_queries.proofs.in_definitions.Lists.{not_in_nil, Contains-first, only, mapped_some}
+use Rattle.rule_selection_queries.specs.in_document_definitions.Selected.{InOperation, StandingField}
+use Rattle.rule_selection_queries.specs.in_document_definitions.Reached.{Closed, first, next}
+use Rattle.rule_selection_queries.specs.in_document_definitions.Written.{spreads_written}
+use Rattle.rule_selection_queries.proofs.in_document_definitions.FieldsWritten.{fields_written, SpreadsSet, IsSetFrom, HasContent}
+use Rattle.rule_selection_queries.specs.in_document_definitions.PlainFields.{IsSelected}
+use Rattle.rule_selection_queries.specs.in_document_definitions.ReadFields.{ReadField, ReadSet, listed, fields_read, fields_in, spreads_in, field_read, list_read}
+use Rattle.rule_selection_queries.proofs.in_document_definitions.Unplaced.{contains_map, contains_unmap, closed_map, closed_unmap}
+use Rattle.rule_selection_queries.proofs.in_document_definitions.ReadFacts.{read_written}
+use Rattle.rule_selection_queries.proofs.in_document_definitions.WrittenFacts.{written_from}
+use Rattle.rule_field_sets.specs.in_reach.Fields.{meant_fragments}
 use Rattle.rule_field_sets.specs.declared.field_sets.FieldSets.{FieldSets}
 use Rattle.rule_field_sets.specs.declared.member.Member.{Member}
 use Rattle.rule_field_sets.specs.declared.member.SetNode.{SetNode}

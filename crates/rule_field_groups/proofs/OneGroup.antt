@@ -2,8 +2,8 @@
 use Rattle.std.proofs.Common.{◌≡◌, ◌∙◌, ℕ, ◌+◌, ◌≤◌, Bool, true, false, not, List, [], ◌∷◌, ◌++◌, map, Contains, inl, inr, refl, sym, ap, subst, cond, filter, length, arith}
 use Rattle.std.proofs.lemmas.Slice.Eq.{bytes_eq-Decides}
 use Rattle.std.proofs.lemmas.List.Elements.{Contains-append_cases}
-use Rattle.rule_same_values.proofs.in_definitions.in_schema_types.in_components.Places.{not_in_nil, Contains-cons, Contains-first, Contains-rest}
-use Rattle.rule_same_values.specs.in_definitions.Judged.{Judged}
+use Rattle.rule_selection_queries.proofs.in_definitions.in_schema_types.in_components.Places.{not_in_nil, Contains-cons, Contains-first, Contains-rest}
+use Rattle.rule_selection_queries.specs.in_definitions.Judged.{Judged}
 use Rattle.rule_field_sets.specs.declared.member.Member.{Member}
 use Rattle.rule_field_groups.specs.Kinds.{is_abstract}
 use Rattle.rule_field_groups.specs.Grouped.{has, parent_of, HaveOneName, AreFiled}

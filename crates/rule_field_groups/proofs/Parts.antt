@@ -1,13 +1,12 @@
 -- The parts of a group: what is shared with what is of one type.
-use Rattle.std.proofs.Common.{◌≡◌, ◌⊎◌, ◌∙◌, List, [], ◌∷◌, ◌++◌, map, Contains, refl, sym, ap, inl, inr}
+use Rattle.std.proofs.Common.{◌≡◌, ◌⊎◌, ◌∙◌, List, [], ◌∷◌, ◌++◌, map, Vec, Global, Contains, refl, sym, ap, inl, inr}
 use Rattle.std.proofs.lemmas.List.{map-append}
 use Rattle.std.proofs.lemmas.List.Elements.{Contains-append_left}
-use Rattle.rule_same_values.proofs.in_definitions.in_schema_types.in_components.Places.{not_in_nil, only, Contains-first}
-use Rattle.rule_same_values.proofs.in_document_definitions.Unplaced.{contains_map, contains_unmap}
+use Rattle.rule_selection_queries.proofs.in_definitions.in_schema_types.in_components.Places.{not_in_nil, only, Contains-first}
+use Rattle.rule_selection_queries.proofs.in_document_definitions.Unplaced.{contains_map, contains_unmap}
 use Rattle.std.proofs.lemmas.Simd.{map-map}
 use Rattle.rule_field_groups.specs.Members.{field_of, fields_of}
 use Rattle.rule_field_sets.specs.declared.member.Member.{Member}
-use Rattle.rule_field_groups.specs.declared.groups.OwnFields.{OwnFields}
 use Rattle.rule_field_groups.specs.KeyGroups.{with_own}
 
 module _ {X : Type 0} where
@@ -36,5 +35,5 @@ fields_parts shared (own ∷ owns) = each (own ∷ owns)
     each [] = refl
     each (l ∷ ls) = λ i. map-append field_of shared l i ∷ each ls i
 
-pub own_fields_parts : (shared : List Member) (owns : List OwnFields) → map fields_of (with_own shared (map (λ o. o.fields.items) owns)) ≡ with_own (fields_of shared) (map (λ o. fields_of o.fields.items) owns)
-own_fields_parts shared owns = fields_parts shared (map (λ (o : OwnFields). o.fields.items) owns) ∙ ap (with_own (fields_of shared)) (map-map fields_of (λ (o : OwnFields). o.fields.items) owns)
+pub own_fields_parts : (shared : List Member) (owns : List (Vec Member Global)) → map fields_of (with_own shared (map (λ o. o.items) owns)) ≡ with_own (fields_of shared) (map (λ o. fields_of o.items) owns)
+own_fields_parts shared owns = fields_parts shared (map (λ (o : Vec Member Global). o.items) owns) ∙ ap (with_own (fields_of shared)) (map-map fields_of (λ (o : Vec Member Global). o.items) owns)

@@ -3,19 +3,19 @@ use Rattle.std.proofs.Common.{◌≡◌, ◌⊎◌, ◌∙◌, ℕ, ◌+◌, ◌
 use Rattle.std.specs.Prelude.{Result, Ok, Err, OnErr}
 use Rattle.std.proofs.lemmas.List.{length-map}
 use Rattle.graphql_names.specs.Placed.{Place}
-use Rattle.rule_same_values.specs.in_meaning.MeantTree.{MeantSet}
+use Rattle.rule_selection_queries.specs.in_spec_document.MeantTree.{MeantSet}
 use Rattle.rule_cycle_search.specs.Paths.{HasNoRepeat}
 use Rattle.rule_cycle_search.proofs.Lists.{Contains-first}
-use Rattle.rule_number_lists.specs.NumberLists.{Keeps, list_of, lists_kept}
-use Rattle.rule_number_lists.specs.declared.lists.NumberLists.{NumberLists}
-use Rattle.rule_number_lists.specs.NumberPairs.{KeepsPair, pairs_kept}
-use Rattle.rule_number_lists.specs.NumberSet.{numbers_in, PutsIn}
-use Rattle.rule_number_lists.specs.declared.set.NumberSet.{NumberSet}
-use Rattle.rule_number_lists.proofs.Standing.{in_map, of_map}
-use Rattle.rule_number_lists.proofs.Few.{in_rest}
-use Rattle.rule_number_lists.proofs.Sets.{numbers_once, was_there}
-use Rattle.rule_number_lists.proofs.Said.{list_said, unlike_said, apart_said, say_both, pair_said}
-use Rattle.rule_same_values.specs.in_document_definitions.ReadFields.{ReadField, ReadSet, field_read, list_read}
+use Rattle.list_interner.specs.NumberLists.{Keeps, list_of, lists_kept}
+use Rattle.list_interner.specs.declared.lists.NumberLists.{NumberLists}
+use Rattle.list_interner.specs.NumberPairs.{KeepsPair, pairs_kept}
+use Rattle.list_interner.specs.NumberSet.{numbers_in, PutsIn}
+use Rattle.list_interner.specs.declared.set.NumberSet.{NumberSet}
+use Rattle.list_interner.proofs.Standing.{in_map, of_map}
+use Rattle.list_interner.proofs.Few.{in_rest}
+use Rattle.list_interner.proofs.Sets.{numbers_once, was_there}
+use Rattle.list_interner.proofs.Said.{list_said, unlike_said, apart_said, say_both, pair_said}
+use Rattle.rule_selection_queries.specs.in_document_definitions.ReadFields.{ReadField, ReadSet, field_read, list_read}
 use Rattle.rule_field_sets.specs.Nodes.{AreSets, HasMember}
 use Rattle.rule_field_sets.specs.Read.{content_at, set_content_at}
 use Rattle.rule_field_sets.specs.declared.member.Member.{Member}
@@ -24,8 +24,8 @@ use Rattle.rule_field_sets.proofs.Meaning.{content_of_member, content_injective}
 use Rattle.rule_field_groups.specs.Members.{field_of, fields_of, content_of, contents_of, read_sets, AreMembersOf, contents_of_two}
 use Rattle.rule_field_groups.specs.Paid.{Account, IsWithin, most_members, Meets, OnlyMeets, Pays}
 use Rattle.rule_field_groups.specs.Under.{sets_in}
-use Rattle.rule_field_groups.specs.Remembered.{Kept, kept_of, account_of, Remembers, LooksAt, Expands, IsKnown}
-use Rattle.rule_field_groups.specs.declared.remembered.Remembered.{Remembered}
+use Rattle.rule_field_groups.specs.MergeState.{Kept, kept_of, account_of, Remembers, LooksAt, Expands, IsKnown}
+use Rattle.rule_field_groups.specs.declared.merge_state.MergeState.{MergeState}
 
 abbrev pub number_of : Member → ℕ
 number_of m = m.number
@@ -134,12 +134,12 @@ where_err (Ok y) h = tt
 where_err (Err y) h = h
 
 -- fields of a list are met, and nothing else changes
-pub meets_only : (old mid : Remembered) (met : NumberSet) (list : List Member) → mid ≡ record old { met = mid.met }
+pub meets_only : (old mid : MergeState) (met : NumberSet) (list : List Member) → mid ≡ record old { met = mid.met }
     → ((n : ℕ) → Contains (numbers_in met) n → Contains (numbers_in old.met) n ⊎ Contains (numbers_of list) n) → length (numbers_in old.met) ≤ length (numbers_in met)
     → (w : FieldSets) → AreSets w → AreMembersOf w list → OnlyMeets (contents_of list) (account_of w old) (account_of w (record mid { met = met }))
 meets_only old mid met list same only more w are all = (
-  are_met w are old.met met list (account_of w old) (account_of w (record mid { met = met })) all refl refl only more (ap (λ (r : Remembered). r.comparisons) same),
-  ap (λ (r : Remembered). r.spent) same,
+  are_met w are old.met met list (account_of w old) (account_of w (record mid { met = met })) all refl refl only more (ap (λ (r : MergeState). r.comparisons) same),
+  ap (λ (r : MergeState). r.spent) same,
 )
 
 -- one more of them is met
@@ -151,16 +151,16 @@ one_more_met old mid new list m is_new among puts only n c = elim (was_there mid
 ]
 
 -- where fields of a list were met, and nothing else changed
-module _ (old mid : Remembered) (list slice : List Member) (same : mid ≡ record old { met = mid.met }) (is : slice ≡ list)
+module _ (old mid : MergeState) (list slice : List Member) (same : mid ≡ record old { met = mid.met }) (is : slice ≡ list)
     (meets : (w : FieldSets) → AreSets w → AreMembersOf w slice → OnlyMeets (contents_of slice) (account_of w old) (account_of w mid)) where
   pub kept_same : (w : FieldSets) → kept_of w mid ≡ kept_of w old
   kept_same w = ap (kept_of w) same
 
   pub next_same : (w : FieldSets) → sets_in w mid.next ≡ sets_in w old.next
-  next_same w = ap (λ (r : Remembered). sets_in w r.next) same
+  next_same w = ap (λ (r : MergeState). sets_in w r.next) same
 
   spent_same : mid.spent ≡ old.spent
-  spent_same = ap (λ (r : Remembered). r.spent) same
+  spent_same = ap (λ (r : MergeState). r.spent) same
 
   met_so : (w : FieldSets) → AreSets w → AreMembersOf w list → OnlyMeets (contents_of list) (account_of w old) (account_of w mid)
   met_so w are all = subst (λ l. OnlyMeets (contents_of l) (account_of w old) (account_of w mid)) is (meets w are (subst (AreMembersOf w) (sym is) all))
@@ -194,7 +194,7 @@ module _ (old mid : Remembered) (list slice : List Member) (same : mid ≡ recor
 
 -- ---- numbers above all that stand there
 
-pub known_so : (fields sets : ℕ) (r : Remembered) (a b c d : ℕ)
+pub known_so : (fields sets : ℕ) (r : MergeState) (a b c d : ℕ)
     → ((l : List ℕ) → Contains (lists_kept r.lists) l → (n : ℕ) → Contains l n → n < a) → ((n : ℕ) → Contains (numbers_in r.met) n → n < b)
     → ((l : List ℕ) → Contains (lists_kept r.expanded) l → (n : ℕ) → Contains l n → n < c) → ((p : ℕ × ℕ) → Contains (pairs_kept r.looked) p → (p.0 < d) × (p.1 < d))
     → a ≤ fields → b ≤ fields → c ≤ sets → d ≤ sets → IsKnown fields sets r

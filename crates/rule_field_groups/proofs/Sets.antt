@@ -9,11 +9,11 @@ use Rattle.std.proofs.lemmas.Map.Views.{Contains-from_any, list_any-from_Contain
 use Rattle.std.proofs.lemmas.Cmp.{nat_eq_equiv}
 use Rattle.indexmap.specs.IndexSet.{insert_key}
 use Rattle.graphql_names.specs.Placed.{Place}
-use Rattle.rule_same_values.specs.in_meaning.MeantTree.{MeantSet, meant_set, no_meant, meant_then, meant_of_set}
-use Rattle.rule_same_values.proofs.in_definitions.Lists.{not_in_nil, only}
-use Rattle.rule_same_values.specs.in_document_definitions.ReadFields.{ReadSet, list_read}
-use Rattle.rule_same_values.specs.in_document_definitions.Selected.{StandingField, HasNone}
-use Rattle.rule_same_values.proofs.in_document_definitions.Unplaced.{contains_map}
+use Rattle.rule_selection_queries.specs.in_spec_document.MeantTree.{MeantSet, meant_set, no_meant, meant_then, meant_of_set}
+use Rattle.rule_selection_queries.proofs.in_definitions.Lists.{not_in_nil, only}
+use Rattle.rule_selection_queries.specs.in_document_definitions.ReadFields.{ReadSet, list_read}
+use Rattle.rule_selection_queries.specs.in_document_definitions.Selected.{StandingField, HasNone}
+use Rattle.rule_selection_queries.proofs.in_document_definitions.Unplaced.{contains_map}
 use Rattle.rule_field_sets.specs.Nodes.{AreSets, HasMember, IsNodeBelow, own_set, set_nodes}
 use Rattle.rule_field_sets.specs.Read.{set_at, set_content_at, node_read}
 use Rattle.rule_field_sets.specs.declared.field_sets.FieldSets.{FieldSets}

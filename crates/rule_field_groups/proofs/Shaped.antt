@@ -13,10 +13,10 @@ use Rattle.schema_types.specs.Looks.{TypeLooks, type_looks}
 use Rattle.schema_types.specs.declared.type_kind.TypeKind.{TypeKind}
 use Rattle.schema_types.specs.declared.type_kind.TypeKind.TheVariants as kind
 use Rattle.schema_types.proofs.UnderNames.{get_under}
-use Rattle.rule_same_values.specs.in_definitions.Judged.{Judged, judged}
-use Rattle.rule_same_values.specs.in_definitions.Names.{named_in}
-use Rattle.rule_same_values.specs.in_document_definitions.PossibleTypes.{IsComposite}
-use Rattle.rule_same_values.specs.in_document_definitions.Merging.{IsAbstract, lists_and_marks, SameInner, SameType}
+use Rattle.rule_selection_queries.specs.in_definitions.Judged.{Judged, judged}
+use Rattle.rule_selection_queries.specs.in_definitions.Names.{named_in}
+use Rattle.rule_selection_queries.specs.in_document_definitions.PossibleTypes.{IsComposite}
+use Rattle.rule_selection_queries.specs.in_document_definitions.Merging.{IsAbstract, lists_and_marks, SameInner, SameType}
 use Rattle.rule_field_groups.specs.Kinds.{is_abstract_kind, is_abstract, is_composite}
 use Rattle.rule_field_groups.specs.Shapes.{same_marks, same_inner, same_type}
 

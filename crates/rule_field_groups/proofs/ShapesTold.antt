@@ -5,8 +5,8 @@ use Rattle.graphql_names.specs.Node.{content}
 use Rattle.tree_literals.specs.TypeTree.{type_tree, unplaced_type}
 use Rattle.tree_literals.specs.declared.ty.«Type».{«Type»}
 use Rattle.document_typed_selections.specs.declared.selection.Field.{Field}
-use Rattle.rule_same_values.specs.in_definitions.Judged.{Judged}
-use Rattle.rule_same_values.specs.in_document_definitions.Merging.{SameShape}
+use Rattle.rule_selection_queries.specs.in_definitions.Judged.{Judged}
+use Rattle.rule_selection_queries.specs.in_document_definitions.Merging.{SameShape}
 use Rattle.rule_field_groups.specs.Members.{field_of}
 use Rattle.rule_field_sets.specs.declared.member.Member.{Member}
 use Rattle.rule_field_groups.specs.Shapes.{same_type}

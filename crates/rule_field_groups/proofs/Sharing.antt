@@ -7,15 +7,15 @@ use Rattle.std.proofs.lemmas.List.Elements.{Contains-append_left, Contains-appen
 use Rattle.std.proofs.lemmas.List.Sums.{sum_by-cons}
 use Rattle.std.proofs.lemmas.Slice.Eq.{bytes_eq-Decides}
 use Rattle.graphql_names.specs.Placed.{Place}
-use Rattle.rule_same_values.proofs.in_definitions.in_schema_types.in_components.Places.{not_in_nil, only, Contains-cons, Contains-first}
-use Rattle.rule_same_values.specs.in_definitions.Judged.{Judged}
-use Rattle.rule_same_values.specs.in_document_definitions.Groups.{AreGroups}
-use Rattle.rule_same_values.specs.in_document_definitions.Selected.{StandingField, response_key}
-use Rattle.rule_same_values.proofs.in_document_definitions.Unplaced.{contains_map, contains_unmap}
+use Rattle.rule_selection_queries.proofs.in_definitions.in_schema_types.in_components.Places.{not_in_nil, only, Contains-cons, Contains-first}
+use Rattle.rule_selection_queries.specs.in_definitions.Judged.{Judged}
+use Rattle.rule_selection_queries.specs.in_document_definitions.Groups.{AreGroups}
+use Rattle.rule_selection_queries.specs.in_document_definitions.Selected.{StandingField, response_key}
+use Rattle.rule_selection_queries.proofs.in_document_definitions.Unplaced.{contains_map, contains_unmap}
 use Rattle.rule_field_groups.specs.Members.{field_of, fields_of}
 use Rattle.rule_field_sets.specs.declared.member.Member.{Member}
-use Rattle.rule_same_values.specs.in_document_definitions.Sharing.{AreKeyGroups, AreShareGroups, IsOn}
-use Rattle.rule_same_values.proofs.in_document_definitions.SharingFacts.{key_groups, share_groups}
+use Rattle.rule_selection_queries.specs.in_document_definitions.Sharing.{AreKeyGroups, AreShareGroups, IsOn}
+use Rattle.rule_selection_queries.proofs.in_document_definitions.SharingFacts.{key_groups, share_groups}
 use Rattle.rule_field_groups.specs.Compared.{compared}
 use Rattle.rule_field_groups.specs.Kinds.{is_abstract}
 use Rattle.rule_field_groups.specs.Passes.{Together}
@@ -282,6 +282,10 @@ parents_once s list shared owns is all = omega (arith, ap length is, all, split_
 -- all in one part
 pub shapes_once : (list shared : List Member) (owns : List (List Member)) → shared ≡ list → owns ≡ [] → sum (map length (shared ∷ owns)) ≡ length list
 shapes_once list shared owns is none = omega (arith, ap length is, ap (λ l. sum (map length (shared ∷ l))) none, sum_by-cons (λ n. n) (length shared) [])
+
+-- all on one object type
+pub own_once : (list shared : List Member) (owns : List (List Member)) → shared ≡ [] → owns ≡ list ∷ [] → sum (map length (shared ∷ owns)) ≡ length list
+own_once list shared owns none is = omega (arith, ap length none, ap (λ l. sum (map length l)) is, sums length (shared ∷ []) owns)
 
 -- ---- one group more
 

@@ -2,18 +2,18 @@
 use Rattle.std.proofs.Common.{◌≡◌, ℕ, ◌<◌, ◌+◌, List, ◌∷◌, [], get_or, length, map, take, Contains, sym, subst, inl, inr}
 use Rattle.std.proofs.lemmas.List.Elements.{Contains-append_cases}
 use Rattle.rule_cycle_search.proofs.Lists.{only}
-use Rattle.rule_number_lists.specs.NumberLists.{lists_kept, list_at}
-use Rattle.rule_number_lists.specs.declared.lists.NumberLists.{NumberLists}
-use Rattle.rule_number_lists.proofs.Found.{kept_at}
-use Rattle.rule_number_lists.proofs.Standing.{in_map, of_map}
-use Rattle.rule_same_values.specs.in_document_definitions.ReadFields.{ReadField, field_read}
+use Rattle.list_interner.specs.NumberLists.{lists_kept, list_at}
+use Rattle.list_interner.specs.declared.lists.NumberLists.{NumberLists}
+use Rattle.list_interner.proofs.Found.{kept_at}
+use Rattle.list_interner.proofs.Standing.{in_map, of_map}
+use Rattle.rule_selection_queries.specs.in_document_definitions.ReadFields.{ReadField, field_read}
 use Rattle.rule_field_sets.specs.Nodes.{AreSets}
 use Rattle.rule_field_sets.specs.Read.{content_at}
 use Rattle.rule_field_sets.specs.declared.member.Member.{Member}
 use Rattle.rule_field_sets.specs.declared.field_sets.FieldSets.{FieldSets}
 use Rattle.rule_field_sets.proofs.Meaning.{content_of_member}
 use Rattle.rule_field_groups.specs.Members.{field_of, fields_of, content_of, contents_of, AreMembersOf}
-use Rattle.rule_field_groups.specs.Remembered.{AllStandIn}
+use Rattle.rule_field_groups.specs.MergeState.{AllStandIn}
 use Rattle.rule_field_groups.proofs.Lists.{taken_more}
 
 -- the list at a place has the number of each of these members

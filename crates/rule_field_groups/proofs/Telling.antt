@@ -1,26 +1,24 @@
 -- What is told of a group, field by field; how often shapes are compared for it.
-use Rattle.std.proofs.Common.{◌≡◌, ◌++◌, ◌∙◌, ◌≤◌, ◌<◌, ◌+◌, ℕ, List, [], ◌∷◌, map, take, drop, length, get_or, min, Vec, Global, Option, None, Some, Contains, refl, sym, ap, subst, length-append, append-nil, append_assoc, inl, inr, arith}
+use Rattle.std.proofs.Common.{◌≡◌, ◌⊎◌, ◌++◌, ◌∙◌, ◌≤◌, ◌<◌, ◌+◌, ℕ, List, [], ◌∷◌, map, take, drop, length, get_or, min, Vec, Global, Option, None, Some, Contains, refl, sym, ap, subst, append-nil, append_assoc, inl, inr, arith}
 use Rattle.std.specs.Prelude.{option_to_list, MatchOption}
 use Rattle.std.specs.List.{AllByRecursion}
-use Rattle.std.proofs.lemmas.List.{map-append, take_more, take_all, take-append-drop}
+use Rattle.std.proofs.lemmas.List.{map-append, take_more, take_all}
 use Rattle.std.proofs.lemmas.List.Elements.{Contains-append_left, Contains-append_right, Contains-append_cases, Contains-get_or}
 use Rattle.graphql_names.specs.Placed.{Place}
-use Rattle.fault_document_data.specs.declared.build_error.BuildError.{BuildError}
-use Rattle.rule_same_values.proofs.in_definitions.in_schema_types.in_components.Places.{not_in_nil, only, Contains-cons, Contains-first, Contains-rest}
-use Rattle.rule_same_values.specs.in_definitions.Judged.{Judged}
-use Rattle.rule_same_values.specs.in_document_definitions.DocumentFaults.{Broken}
-use Rattle.rule_same_values.specs.in_document_definitions.Selected.{StandingField}
-use Rattle.rule_same_values.specs.in_document_definitions.Groups.{AgreeWithHead}
-use Rattle.rule_same_values.proofs.in_document_definitions.Equivalences.{shape_sym, shape_trans, selection_sym, selection_trans}
-use Rattle.rule_same_values.proofs.in_document_definitions.Unplaced.{contains_map, contains_unmap}
-use Rattle.rule_same_values.proofs.Equivalences.{arguments_refl}
-use Rattle.rule_field_sets.specs.in_ground.Broken.{brokens_of}
+use Rattle.fault_document_errors.specs.declared.build_error.BuildError.{BuildError}
+use Rattle.rule_selection_queries.proofs.in_definitions.in_schema_types.in_components.Places.{not_in_nil, only, Contains-cons, Contains-first, Contains-rest}
+use Rattle.rule_selection_queries.specs.in_definitions.Judged.{Judged}
+use Rattle.rule_selection_queries.specs.in_document_definitions.DocumentFaults.{Broken}
+use Rattle.rule_selection_queries.specs.in_document_definitions.Selected.{StandingField}
+use Rattle.rule_selection_queries.specs.in_document_definitions.Groups.{AgreeWithHead}
+use Rattle.rule_selection_queries.proofs.in_document_definitions.Unplaced.{contains_map, contains_unmap}
+use Rattle.rule_selection_queries.proofs.Equivalences.{arguments_refl}
+use Rattle.rule_field_sets.specs.in_reach.Broken.{brokens_of}
 use Rattle.rule_field_groups.specs.Members.{field_of, fields_of}
 use Rattle.rule_field_sets.specs.declared.member.Member.{Member}
 use Rattle.rule_field_groups.specs.declared.pass.Pass.{Pass}
 use Rattle.rule_field_groups.specs.declared.pass.Pass.TheVariants.{Shapes, Selections}
 use Rattle.rule_field_groups.specs.Passes.{Agree, Conflict, AddsTwo, TellsGroup, AddsGroup, TellsEach, AddsEach}
-use Rattle.rule_field_groups.specs.declared.groups.OwnFields.{OwnFields}
 use Rattle.rule_field_groups.specs.KeyGroups.{with_own}
 use Rattle.rule_field_groups.proofs.Counts.{front_with}
 use Rattle.rule_field_groups.proofs.Parts.{part_of_shared, part_of_own, of_parts, own_fields_parts}
@@ -55,8 +53,17 @@ module _ (pass : Pass) (s : Judged) (group : List (StandingField Place)) (first 
   none_taken : SoFar pass s group first [] []
   none_taken = record { right = λ fault c. absurd (not_in_nil fault c); agree = λ e. tt }
 
+  -- a breach about two of the group, in one order or the other
+  abbrev EitherWay : Broken Place → StandingField Place → Type 0
+  EitherWay fault g = Conflict pass s fault first g ⊎ Conflict pass s fault g first
+
+  two_of : Contains group first → (g : StandingField Place) → Contains group g → (fault : Broken Place) → EitherWay fault g
+      → (f : StandingField Place) × ((k : StandingField Place) × (Contains group f × (Contains group k × Conflict pass s fault f k)))
+  two_of here g there fault (inl conflict) = (first, (g, (here, (there, conflict))))
+  two_of here g there fault (inr conflict) = (g, (first, (there, (here, conflict))))
+
   one_more : Contains group first → (taken : List (StandingField Place)) (added : List (Broken Place)) (g : StandingField Place) (told : Option (Broken Place)) → Contains group g
-      → SoFar pass s group first taken added → MatchOption told (Agree pass s first g) (λ b. Conflict pass s b first g) → SoFar pass s group first (taken ++ g ∷ []) (added ++ option_to_list told)
+      → SoFar pass s group first taken added → MatchOption told (Agree pass s first g) (λ b. EitherWay b g) → SoFar pass s group first (taken ++ g ∷ []) (added ++ option_to_list told)
   one_more here taken added g None there so_far agrees = record {
     right = λ fault c. so_far.right fault (subst (λ l. Contains l fault) (append-nil added) c);
     agree = λ e. all_more (Agree pass s first) taken g (so_far.agree (left_empty added [] e)) agrees;
@@ -64,7 +71,7 @@ module _ (pass : Pass) (s : Judged) (group : List (StandingField Place)) (first 
   one_more here taken added g (Some b) there so_far conflict = record {
     right = λ fault c. elim (Contains-append_cases added (b ∷ []) fault c) [
       | inl a ↦ so_far.right fault a
-      | inr r ↦ (first, (g, (here, (there, subst (λ t. Conflict pass s t first g) (sym (only b fault r)) conflict))))
+      | inr r ↦ two_of here g there fault (subst (λ t. EitherWay t g) (sym (only b fault r)) conflict)
     ];
     agree = λ e. let no : b ∷ [] ≡ [] = right_empty added (b ∷ []) e in cc;
   }
@@ -193,113 +200,20 @@ count_group Selections first others group old now is h = h
 pub exact_group : {X : Type 0} (pass : Pass) (first : X) (others group : List X) (old now : ℕ) → group ≡ first ∷ others → CountsUp old (compared pass others) now → CountsUp old (compared pass (drop 1 group)) now
 exact_group pass first others group old now is h = subst (λ l. CountsUp old (compared pass (drop 1 l)) now) (sym is) h
 
--- two parts of a list
-pub count_parts : {X : Type 0} (pass : Pass) (xs ys zs : List X) (old mid new : ℕ) → zs ≡ xs ++ ys → mid ≤ old + compared pass xs → new ≤ mid + compared pass ys → new ≤ old + compared pass zs
-count_parts Shapes xs ys zs old mid new is a b = omega (arith, a, b, ap length is ∙ length-append xs ys)
-count_parts Selections xs ys zs old mid new is a b = omega (arith, a, b)
-
-pub count_part : {X : Type 0} (pass : Pass) (xs ys zs : List X) (old new : ℕ) → zs ≡ xs ++ ys → new ≤ old + compared pass xs → new ≤ old + compared pass zs
-count_part Shapes xs ys zs old new is a = omega (arith, a, ap length is ∙ length-append xs ys)
-count_part Selections xs ys zs old new is a = a
-
--- a list is what it has before a place and from there on
-pub split_is : {X : Type 0} (list front back : List X) (k : ℕ) → front ≡ take k list → back ≡ drop k list → list ≡ front ++ back
-split_is list front back k a b = sym (ap (λ l. l ++ back) a ∙ ap (λ l. take k list ++ l) b ∙ take-append-drop k list)
-
 -- ---- several lists, one after the other
 
 module _ (pass : Pass) (s : Judged) where
-  agree_sym : (f g : StandingField Place) → Agree pass s f g → Agree pass s g f
-  agree_sym = by pass
-    where
-      by : (p : Pass) (f g : StandingField Place) → Agree p s f g → Agree p s g f
-      by Shapes = shape_sym s
-      by Selections = selection_sym
-
-  agree_trans : (f g k : StandingField Place) → Agree pass s f g → Agree pass s g k → Agree pass s f k
-  agree_trans = by pass
-    where
-      by : (p : Pass) (f g k : StandingField Place) → Agree p s f g → Agree p s g k → Agree p s f k
-      by Shapes = shape_trans s
-      by Selections = selection_trans
-
   all_on : (Q : StandingField Place → Type 0) (xs ys : List (StandingField Place)) → AllByRecursion Q xs → AllByRecursion Q ys → AllByRecursion Q (xs ++ ys)
   all_on Q [] ys a b = b
   all_on Q (x ∷ xs) ys a b = (a.0, all_on Q xs ys a.1 b)
 
-  all_weaker : (Q R : StandingField Place → Type 0) → ((x : StandingField Place) → Q x → R x) → (xs : List (StandingField Place)) → AllByRecursion Q xs → AllByRecursion R xs
-  all_weaker Q R on [] a = tt
-  all_weaker Q R on (x ∷ xs) a = (on x a.0, all_weaker Q R on xs a.1)
-
-  -- two lists that begin with the same
-  tells_both : (first : StandingField Place) (xs ys : List (StandingField Place)) (a b : List (Broken Place)) → TellsGroup pass s (first ∷ xs) a → TellsGroup pass s (first ∷ ys) b → TellsGroup pass s (first ∷ (xs ++ ys)) (a ++ b)
-  tells_both first xs ys a b p q = record {
-    right = λ fault c. elim (Contains-append_cases a b fault c) [
-      | inl h ↦ let t = p.right fault h in (t.0, (t.1.0, (left t.0 t.1.1.0, (left t.1.0 t.1.1.1.0, t.1.1.1.1))))
-      | inr h ↦ let t = q.right fault h in (t.0, (t.1.0, (right t.0 t.1.1.0, (right t.1.0 t.1.1.1.0, t.1.1.1.1))))
-    ];
-    agree = λ e. let u = p.agree (left_empty a b e) in let v = q.agree (right_empty a b e) in (u.0, all_on (Agree pass s first) xs ys u.1 v.1);
-  }
-    where
-      left : (x : StandingField Place) → Contains (first ∷ xs) x → Contains (first ∷ (xs ++ ys)) x
-      left x c = Contains-append_left (first ∷ xs) ys x c
-
-      right : (x : StandingField Place) → Contains (first ∷ ys) x → Contains (first ∷ (xs ++ ys)) x
-      right x c = elim (Contains-cons first ys x c) [
-        | inl e ↦ Contains-first first (xs ++ ys) x e
-        | inr r ↦ Contains-rest first (xs ++ ys) x (Contains-append_right xs ys x r)
-      ]
-
-  -- those before another agree with the first of them, and this with the other
-  tells_before : (first other : StandingField Place) (rest : List (StandingField Place)) (a b : List (Broken Place)) → TellsGroup pass s (first ∷ rest) a → TellsGroup pass s (first ∷ other ∷ []) b
-      → TellsGroup pass s (other ∷ first ∷ rest) (a ++ b)
-  tells_before first other rest a b p q = record {
-    right = λ fault c. elim (Contains-append_cases a b fault c) [
-      | inl h ↦ let t = p.right fault h in (t.0, (t.1.0, (left t.0 t.1.1.0, (left t.1.0 t.1.1.1.0, t.1.1.1.1))))
-      | inr h ↦ let t = q.right fault h in (t.0, (t.1.0, (right t.0 t.1.1.0, (right t.1.0 t.1.1.1.0, t.1.1.1.1))))
-    ];
-    agree = λ e.
-        let u = p.agree (left_empty a b e) in
-        let v = q.agree (right_empty a b e) in
-        let back = agree_sym first other v.1.0 in
-        (agree_refl pass s other, all_weaker (Agree pass s first) (Agree pass s other) (λ x k. agree_trans other first x back k) (first ∷ rest) u);
-  }
-    where
-      left : (x : StandingField Place) → Contains (first ∷ rest) x → Contains (other ∷ first ∷ rest) x
-      left x c = Contains-rest other (first ∷ rest) x c
-
-      right : (x : StandingField Place) → Contains (first ∷ other ∷ []) x → Contains (other ∷ first ∷ rest) x
-      right x c = elim (Contains-cons first (other ∷ []) x c) [
-        | inl e ↦ Contains-rest other (first ∷ rest) x (Contains-first first rest x e)
-        | inr r ↦ Contains-first other (first ∷ rest) x (sym (only other x r))
-      ]
-
-  tells_one : (f : StandingField Place) → TellsGroup pass s (f ∷ []) []
-  tells_one f = record { right = λ fault c. absurd (not_in_nil fault c); agree = λ e. (agree_refl pass s f, tt) }
-
-  -- the same of what is added
-  pub adds_none : (f : Member) (list : List Member) → length list ≡ 0 → (breaches : Breaches) → AddsGroup pass s (fields_of (f ∷ list)) breaches breaches
-  adds_none f list e breaches = ([], (sym (append-nil (brokens_of breaches)), subst (λ l. TellsGroup pass s (fields_of (f ∷ l)) []) (sym (empty_is list e)) (tells_one (field_of f))))
-
-  pub adds_before : (first other : StandingField Place) (rest : List (StandingField Place)) (old mid new : Breaches) → AddsGroup pass s (first ∷ rest) old mid → AddsGroup pass s (first ∷ other ∷ []) mid new
-      → AddsGroup pass s (other ∷ first ∷ rest) old new
-  adds_before first other rest old mid new (a, (is, p)) (b, (is_too, q)) =
-      (a ++ b, (is_too ∙ ap (λ l. l ++ b) is ∙ append_assoc (brokens_of old) a b, tells_before first other rest a b p q))
-
-  pub adds_both : (first : StandingField Place) (xs ys : List (StandingField Place)) (old mid new : Breaches) → AddsGroup pass s (first ∷ xs) old mid → AddsGroup pass s (first ∷ ys) mid new → AddsGroup pass s (first ∷ (xs ++ ys)) old new
-  adds_both first xs ys old mid new (a, (is, p)) (b, (is_too, q)) =
-      (a ++ b, (is_too ∙ ap (λ l. l ++ b) is ∙ append_assoc (brokens_of old) a b, tells_both first xs ys a b p q))
-
-  -- where none is shared, and where one is: those before it and those behind it
+  -- where none is shared, and where one is
   pub adds_unshared : (shared own : List Member) → length shared ≡ 0 → (old new : Breaches) → AddsGroup pass s (fields_of own) old new → AddsGroup pass s (fields_of (take 1 shared ++ own)) old new
   adds_unshared shared own e old new h = subst (λ (l : List Member). AddsGroup pass s (fields_of (take 1 l ++ own)) old new) (sym (empty_is shared e)) h
 
-  pub adds_around : (first : Member) (rest shared before behind own : List Member) → shared ≡ first ∷ rest → own ≡ before ++ behind → (old mid new : Breaches)
-      → AddsGroup pass s (fields_of (first ∷ before)) old mid → AddsGroup pass s (fields_of (first ∷ behind)) mid new → AddsGroup pass s (fields_of (take 1 shared ++ own)) old new
-  adds_around first rest shared before behind own is parts old mid new p q =
-      subst (λ (l : List Member). AddsGroup pass s (fields_of (take 1 l ++ own)) old new) (sym is)
-      (subst (λ (l : List Member). AddsGroup pass s (fields_of (first ∷ l)) old new) (sym parts)
-      (subst (λ l. AddsGroup pass s (field_of first ∷ l) old new) (sym (map-append field_of before behind)) (adds_both (field_of first) (fields_of before) (fields_of behind) old mid new p q)))
+  pub adds_shared_first : (first : Member) (rest shared own : List Member) → shared ≡ first ∷ rest → (old new : Breaches) → AddsGroup pass s (fields_of (first ∷ own)) old new
+      → AddsGroup pass s (fields_of (take 1 shared ++ own)) old new
+  adds_shared_first first rest shared own is old new h = subst (λ (l : List Member). AddsGroup pass s (fields_of (take 1 l ++ own)) old new) (sym is) h
 
   -- ---- each of some lists
 
@@ -392,15 +306,15 @@ one_fields (x ∷ xs) own = refl
 
 -- one type more, and all types
 module _ (pass : Pass) (s : Judged) (shared : List Member) where
-  pub own_step : (owns : List OwnFields) (i : ℕ) (x : OwnFields) → i < length owns → x ≡ get_or owns i x → (old mid new : Breaches)
-      → AddsEach pass s (with_first pass s (fields_of shared) (map (λ o. fields_of o.fields.items) (take i owns))) old mid → AddsGroup pass s (fields_of (take 1 shared ++ x.fields.items)) mid new
-      → AddsEach pass s (with_first pass s (fields_of shared) (map (λ o. fields_of o.fields.items) (take (i + 1) owns))) old new
+  pub own_step : (owns : List (Vec Member Global)) (i : ℕ) (x : Vec Member Global) → i < length owns → x ≡ get_or owns i x → (old mid new : Breaches)
+      → AddsEach pass s (with_first pass s (fields_of shared) (map (λ o. fields_of o.items) (take i owns))) old mid → AddsGroup pass s (fields_of (take 1 shared ++ x.items)) mid new
+      → AddsEach pass s (with_first pass s (fields_of shared) (map (λ o. fields_of o.items) (take (i + 1) owns))) old new
   own_step owns i x h e old mid new so_far here =
-      subst (λ ls. AddsEach pass s (with_first pass s (fields_of shared) ls) old new) (sym (front_with (λ (o : OwnFields). fields_of o.fields.items) owns i x h e))
-      (adds_own pass s (fields_of shared) (fields_of x.fields.items) (map (λ o. fields_of o.fields.items) (take i owns)) old mid new so_far
-      (subst (λ l. AddsGroup pass s l mid new) (one_fields shared x.fields.items) here))
+      subst (λ ls. AddsEach pass s (with_first pass s (fields_of shared) ls) old new) (sym (front_with (λ (o : Vec Member Global). fields_of o.items) owns i x h e))
+      (adds_own pass s (fields_of shared) (fields_of x.items) (map (λ o. fields_of o.items) (take i owns)) old mid new so_far
+      (subst (λ l. AddsGroup pass s l mid new) (one_fields shared x.items) here))
 
-  pub all_parts : (owns : List OwnFields) (old new : Breaches) → AddsEach pass s (with_first pass s (fields_of shared) (map (λ o. fields_of o.fields.items) owns)) old new
-      → AddsEach pass s (map fields_of (with_own shared (map (λ o. o.fields.items) owns))) old new
+  pub all_parts : (owns : List (Vec Member Global)) (old new : Breaches) → AddsEach pass s (with_first pass s (fields_of shared) (map (λ o. fields_of o.items) owns)) old new
+      → AddsEach pass s (map fields_of (with_own shared (map (λ o. o.items) owns))) old new
   all_parts owns old new h =
-      subst (λ ls. AddsEach pass s ls old new) (sym (own_fields_parts shared owns)) (adds_parts pass s (fields_of shared) (map (λ o. fields_of o.fields.items) owns) old new h)
+      subst (λ ls. AddsEach pass s ls old new) (sym (own_fields_parts shared owns)) (adds_parts pass s (fields_of shared) (map (λ o. fields_of o.items) owns) old new h)

@@ -1,21 +1,20 @@
 -- The lists of sets below the fields of one key.
-use Rattle.std.proofs.Common.{◌≡◌, ◌⊎◌, ◌∙◌, ℕ, ◌+◌, ◌<◌, ◌==◌, true, false, List, [], ◌∷◌, ◌++◌, length, get_or, take, map, flat_map, Contains, refl, sym, ap, subst, inl, inr, append-nil, append_assoc, true≢false, arith}
+use Rattle.std.proofs.Common.{◌≡◌, ◌⊎◌, ◌∙◌, ℕ, ◌+◌, ◌<◌, ◌==◌, true, false, List, [], ◌∷◌, ◌++◌, length, get_or, take, map, flat_map, Contains, refl, sym, ap, subst, inl, inr, append-nil, append_assoc, true≢false, arith, Vec, Global}
 use Rattle.std.proofs.lemmas.Bool.Decides.{Decides-eqb}
 use Rattle.std.proofs.lemmas.List.{map-append}
 use Rattle.std.proofs.lemmas.List.Elements.{Contains-append_left, Contains-append_right, Contains-append_cases}
 use Rattle.graphql_names.specs.Placed.{Place}
-use Rattle.rule_same_values.proofs.in_definitions.in_schema_types.in_components.Places.{Contains-rest}
-use Rattle.rule_same_values.proofs.in_definitions.Lists.{not_in_nil, only, Contains-cons, Contains-first, given_in}
-use Rattle.rule_same_values.specs.in_meaning.MeantTree.{MeantSet}
-use Rattle.rule_same_values.specs.in_document_definitions.ReadFields.{list_read}
-use Rattle.rule_same_values.specs.in_document_definitions.Selected.{StandingField}
-use Rattle.rule_same_values.proofs.in_document_definitions.Unplaced.{contains_map, contains_unmap}
+use Rattle.rule_selection_queries.proofs.in_definitions.in_schema_types.in_components.Places.{Contains-rest}
+use Rattle.rule_selection_queries.proofs.in_definitions.Lists.{not_in_nil, only, Contains-cons, Contains-first, given_in}
+use Rattle.rule_selection_queries.specs.in_spec_document.MeantTree.{MeantSet}
+use Rattle.rule_selection_queries.specs.in_document_definitions.ReadFields.{list_read}
+use Rattle.rule_selection_queries.specs.in_document_definitions.Selected.{StandingField}
+use Rattle.rule_selection_queries.proofs.in_document_definitions.Unplaced.{contains_map, contains_unmap}
 use Rattle.rule_field_sets.specs.Read.{set_at}
 use Rattle.rule_field_sets.specs.declared.field_sets.FieldSets.{FieldSets}
 use Rattle.rule_field_sets.specs.declared.member.Member.{Member}
 use Rattle.rule_field_groups.specs.Members.{field_of, fields_of, meant_sets, read_sets, AreMembersOf}
 use Rattle.rule_field_groups.specs.declared.groups.KeyGroup.{KeyGroup}
-use Rattle.rule_field_groups.specs.declared.groups.OwnFields.{OwnFields}
 use Rattle.rule_field_groups.specs.Grouped.{ArePartsOf}
 use Rattle.rule_field_groups.specs.KeyGroups.{with_own, own_lists, lists_in_group}
 use Rattle.rule_field_groups.specs.Below.{IsBare, AreSetsOf, NotesSet}
@@ -288,31 +287,31 @@ module _ (shared : List (StandingField Place)) (first : Sets) (owns : List (List
 pub none_joined : (first : Sets) (lists : List Sets) → JoinsEach first [] lists lists
 none_joined first lists = ([], (sym (append-nil lists), λ shared of begun so_far. subst (BelowSoFar shared first []) (sym (append-nil begun)) so_far))
 
-pub joined_more : (first : Sets) (owns : List OwnFields) (i : ℕ) (x : OwnFields) → i < length owns → x ≡ get_or owns i x → (further : Sets) (old mid new : List Sets) → AreFurther (fields_of x.fields.items) first further
-    → PutsTogether first further mid new → JoinsEach first (map (λ o. fields_of o.fields.items) (take i owns)) old mid → JoinsEach first (map (λ o. fields_of o.fields.items) (take (i + 1) owns)) old new
+pub joined_more : (first : Sets) (owns : List (Vec Member Global)) (i : ℕ) (x : Vec Member Global) → i < length owns → x ≡ get_or owns i x → (further : Sets) (old mid new : List Sets) → AreFurther (fields_of x.items) first further
+    → PutsTogether first further mid new → JoinsEach first (map (λ o. fields_of o.items) (take i owns)) old mid → JoinsEach first (map (λ o. fields_of o.items) (take (i + 1) owns)) old new
 joined_more first owns i x h e further old mid new are puts (added, (lies, so_far)) =
-    let front = map (λ (o : OwnFields). fields_of o.fields.items) (take i owns) in (
+    let front = map (λ (o : Vec Member Global). fields_of o.items) (take i owns) in (
       added ++ puts.added,
       (
         puts.is ∙ ap (λ l. l ++ puts.added) lies ∙ append_assoc old added puts.added,
         λ shared of begun begins.
             let after : PutsTogether first further (begun ++ added) (begun ++ added ++ puts.added) = record { added = puts.added; is = refl; within = puts.within; both = puts.both } in
-            subst (λ ls. BelowSoFar shared first ls (begun ++ (added ++ puts.added))) (sym (front_with (λ (o : OwnFields). fields_of o.fields.items) owns i x h e))
-            (subst (BelowSoFar shared first (front ++ fields_of x.fields.items ∷ [])) (append_assoc begun added puts.added)
-            (own_below shared (fields_of x.fields.items) first further front (begun ++ added) (begun ++ added ++ puts.added) of are after (so_far shared of begun begins))),
+            subst (λ ls. BelowSoFar shared first ls (begun ++ (added ++ puts.added))) (sym (front_with (λ (o : Vec Member Global). fields_of o.items) owns i x h e))
+            (subst (BelowSoFar shared first (front ++ fields_of x.items ∷ [])) (append_assoc begun added puts.added)
+            (own_below shared (fields_of x.items) first further front (begun ++ added) (begun ++ added ++ puts.added) of are after (so_far shared of begun begins))),
       ),
     )
 
 -- the lists below the fields of one key
-pub parts_below : (shared : List Member) (owns : List OwnFields) (first : Sets) (old begun new : List Sets) → AreSetsOf (fields_of shared) first → begun ≡ old ++ joined [] first
-    → JoinsEach first (map (λ o. fields_of o.fields.items) owns) begun new → AddsBelow (map fields_of (with_own shared (map (λ o. o.fields.items) owns))) old new
+pub parts_below : (shared : List Member) (owns : List (Vec Member Global)) (first : Sets) (old begun new : List Sets) → AreSetsOf (fields_of shared) first → begun ≡ old ++ joined [] first
+    → JoinsEach first (map (λ o. fields_of o.items) owns) begun new → AddsBelow (map fields_of (with_own shared (map (λ o. o.items) owns))) old new
 parts_below shared owns first old begun new are is (added, (lies, joins)) =
     let below = joined [] first ++ added in (
       below,
       (
         lies ∙ ap (λ l. l ++ added) is ∙ append_assoc old (joined [] first) added,
         subst (λ gs. AreListsBelow gs below) (sym (own_fields_parts shared owns))
-            (are_below (fields_of shared) first (map (λ (o : OwnFields). fields_of o.fields.items) owns) below are
+            (are_below (fields_of shared) first (map (λ (o : Vec Member Global). fields_of o.items) owns) below are
             (joins (fields_of shared) are (joined [] first) (shared_below (fields_of shared) first (joined [] first) are refl))),
       ),
     )

@@ -9,16 +9,16 @@ use Rattle.std.proofs.lemmas.Map.Views.{Contains-from_any, exact_unsigned_eq}
 use Rattle.std.proofs.lemmas.Option.{slice_get_within, get_or_from_slice_get}
 use Rattle.indexmap.specs.IndexSet.{insert_key}
 use Rattle.graphql_names.specs.Placed.{Place}
-use Rattle.rule_same_values.specs.in_meaning.MeantTree.{MeantDocument}
-use Rattle.rule_same_values.proofs.in_definitions.Lists.{not_in_nil, Contains-first, Contains-cons, only, mapped_some, slice_get-map}
+use Rattle.rule_selection_queries.specs.in_spec_document.MeantTree.{MeantDocument}
+use Rattle.rule_selection_queries.proofs.in_definitions.Lists.{not_in_nil, Contains-first, Contains-cons, only, mapped_some, slice_get-map}
 use Rattle.rule_cycle_search.specs.Paths.{HasNoRepeat}
-use Rattle.rule_same_values.specs.in_document_definitions.Selected.{StandingField}
-use Rattle.rule_same_values.specs.in_document_definitions.Reached.{first, next}
-use Rattle.rule_same_values.specs.in_document_definitions.PlainFields.{IsSelected}
-use Rattle.rule_same_values.specs.in_document_definitions.ReadFields.{ReadField, field_read}
-use Rattle.rule_same_values.proofs.in_document_definitions.Unplaced.{contains_map, contains_unmap}
-use Rattle.rule_field_sets.specs.in_ground.Fields.{meant_fragments}
-use Rattle.rule_number_lists.specs.NumberSet.{PutsIn}
+use Rattle.rule_selection_queries.specs.in_document_definitions.Selected.{StandingField}
+use Rattle.rule_selection_queries.specs.in_document_definitions.Reached.{first, next}
+use Rattle.rule_selection_queries.specs.in_document_definitions.PlainFields.{IsSelected}
+use Rattle.rule_selection_queries.specs.in_document_definitions.ReadFields.{ReadField, field_read}
+use Rattle.rule_selection_queries.proofs.in_document_definitions.Unplaced.{contains_map, contains_unmap}
+use Rattle.rule_field_sets.specs.in_reach.Fields.{meant_fragments}
+use Rattle.list_interner.specs.NumberSet.{PutsIn}
 use Rattle.rule_field_sets.specs.declared.field_sets.FieldSets.{FieldSets}
 use Rattle.rule_field_sets.specs.declared.member.Member.{Member}
 use Rattle.rule_field_sets.specs.declared.member.SetNode.{SetNode}

@@ -4,7 +4,7 @@ use Rattle.std.specs.Option.{option_map_or}
 use Rattle.schema_types.specs.SchemaTree.{is_leaf_kind, is_output_kind}
 use Rattle.schema_types.specs.declared.type_kind.TypeKind.{TypeKind}
 use Rattle.schema_types.specs.declared.type_kind.TypeKind.TheVariants as kind
-use Rattle.rule_same_values.specs.in_definitions.Judged.{Judged}
+use Rattle.rule_selection_queries.specs.in_definitions.Judged.{Judged}
 
 abbrev pub is_abstract_kind : TypeKind → Bool
 is_abstract_kind kind.Interface = true

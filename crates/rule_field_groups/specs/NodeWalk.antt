@@ -1,8 +1,8 @@
 -- Private: leads to `IsMerged`. A walk over the sets of nodes for the fields that they select, in which no fragment is walked twice.
 use Rattle.std.specs.Prelude.{◌≡◌, ◌⊎◌, ◌++◌, ◌∷◌, ℕ, Bool, IsTrue, true, false, List, [], map, take, Some, slice_get, Contains}
 use Rattle.rule_cycle_search.specs.Paths.{HasNoRepeat}
-use Rattle.rule_same_values.specs.in_document_definitions.Reached.{Closed}
-use Rattle.rule_number_lists.specs.NumberSet.{numbers_in}
+use Rattle.rule_selection_queries.specs.in_document_definitions.Reached.{Closed}
+use Rattle.list_interner.specs.NumberSet.{numbers_in}
 use Rattle.rule_field_sets.specs.Nodes.{set_nodes, fragment_nodes}
 use Rattle.rule_field_sets.specs.declared.field_sets.FieldSets.{FieldSets}
 use Rattle.rule_field_sets.specs.declared.member.Member.{Member}
@@ -11,7 +11,7 @@ use Rattle.rule_field_groups.specs.declared.node_walk.NodeWalk.{NodeWalk}
 
 -- ---- what a walk has found
 
--- the fields and their numbers, the fragments that were spread, by their places, and whether all was paid that was come to
+-- the fields that were found and their numbers, the fragments that were spread, by index, and whether all that was met was paid
 pub record WalkState : Type 0 where
   pub members : List Member
   pub numbers : List ℕ
@@ -30,12 +30,12 @@ pub record AreNumbered (s : WalkState) : Type 0 where
   pub covers : (n : ℕ) → Contains (numbers_of s.members) n → Contains s.numbers n
   pub apart : HasNoRepeat (numbers_of s.members)
 
--- nothing changes but that the walk is not whole where something is not paid
+-- nothing changes, except that the walk is no longer whole if something is not paid
 abbrev pub with_paid : Bool → WalkState → WalkState
 with_paid true s = s
 with_paid false s = record s { is_whole = false }
 
--- these fields and these spreads are passed, or where the walk is not whole some of them
+-- these fields and these spreads are visited; only some of them, if the walk is not whole
 pub record Passes (members : List Member) (spreads : List ℕ) (old new : WalkState) : Type 0 where
   pub numbered : AreNumbered old → AreNumbered new
   pub more : (m : Member) → Contains old.members m → Contains new.members m
@@ -62,26 +62,26 @@ pub record IsPassed (s : WalkState) (v : SetNode) : Type 0 where
   pub members : (m : Member) → Contains v.members.items m → Contains (numbers_of s.members) m.number
   pub spreads : (p : ℕ) → Contains v.spreads.items p → Contains s.spread p
 
--- ---- where it leads
+-- ---- where a walk leads
 
 module _ (w : FieldSets) where
-  -- it is the node of the set of the fragment at this place in the document
+  -- `v` is the node of the set of the fragment with this index in the document
   abbrev pub IsStartOf : ℕ → SetNode → Type 0
   IsStartOf place v = (n : ℕ) × ((slice_get (fragment_nodes w) place ≡ Some n) × (slice_get (set_nodes w) n ≡ Some v))
 
-  -- the set of the one node spreads the fragment whose set the other is of
+  -- the set of the node `n` spreads a fragment whose node is `m`
   abbrev pub SpreadsNode : ℕ → ℕ → Type 0
   SpreadsNode n m = (v : SetNode) × ((slice_get (set_nodes w) n ≡ Some v) × ((p : ℕ) × (Contains v.spreads.items p × (slice_get (fragment_nodes w) p ≡ Some m))))
 
-  -- spreads lead from the one node to the other: the least nodes with the one itself, and those that each spreads
+  -- spreads lead from one node to another: the smallest set of nodes that has `n`, and with each node those that it spreads
   abbrev pub IsNodeFrom : ℕ → ℕ → Type 0
   IsNodeFrom n = Closed (λ m. m ≡ n) SpreadsNode
 
-  -- spreads lead to it from one of these nodes
+  -- spreads lead to `v` from one of these nodes
   abbrev pub IsReached : List ℕ → SetNode → Type 0
   IsReached nodes v = (n : ℕ) × (Contains nodes n × ((m : ℕ) × (IsNodeFrom n m × (slice_get (set_nodes w) m ≡ Some v))))
 
-  -- nothing is found but what these nodes lead to; where the walk is whole they and the fragments at these places are passed
+  -- nothing is found but what these nodes lead to; if the walk is whole, the nodes and the fragments with these indices are visited
   pub record IsWalkOver (nodes : List ℕ) (entered : List ℕ) (s : WalkState) : Type 0 where
     pub numbered : AreNumbered s
     pub members : (m : Member) → Contains s.members m → (v : SetNode) × (IsReached nodes v × Contains v.members.items m)
@@ -89,14 +89,14 @@ module _ (w : FieldSets) where
     pub over_nodes : IsTrue s.is_whole → (n : ℕ) → Contains nodes n → (v : SetNode) × ((slice_get (set_nodes w) n ≡ Some v) × IsPassed s v)
     pub over_fragments : IsTrue s.is_whole → (p : ℕ) → Contains entered p → (v : SetNode) × (IsStartOf p v × IsPassed s v)
 
-  -- so are all fragments that were spread
+  -- the same, and all fragments that were spread are visited
   abbrev pub IsWalk : List ℕ → WalkState → Type 0
   IsWalk nodes s = IsWalkOver nodes s.spread s
 
-  -- a walk of which the first fragments are passed goes on over the others
+  -- a walk whose first spread fragments are visited continues over the others
   abbrev pub WalksOn : ℕ → WalkState → WalkState → Type 0
   WalksOn entered old new = (nodes : List ℕ) → IsWalkOver nodes (take entered old.spread) old → IsWalk nodes new
 
-  -- a walk over some nodes goes on over one more
+  -- a walk over some nodes continues over one more
   abbrev pub WalksOver : ℕ → WalkState → WalkState → Type 0
   WalksOver n old new = (nodes : List ℕ) → IsWalk nodes old → IsWalk (nodes ++ n ∷ []) new

@@ -4,22 +4,23 @@ use Rattle.std.specs.Prelude.{◌≡◌, ◌++◌, ℕ, List, [], Vec, Option, M
 use Rattle.std.specs.declared.alloc.Global.{Global}
 use Rattle.graphql_names.specs.Placed.{Place}
 use Rattle.schema_coordinates.specs.Coordinate.{Coordinate, OfAttribute, OfArgument}
-use Rattle.fault_document_data.specs.DocumentBreaches.{ConflictingFieldName, ConflictingFieldArgument, ConflictingFieldType}
-use Rattle.fault_document_data.specs.declared.build_error.BuildError.{BuildError}
-use Rattle.rule_same_values.specs.in_definitions.Judged.{Judged}
-use Rattle.rule_same_values.specs.in_document_definitions.DocumentFaults.{Broken, broken}
-use Rattle.rule_same_values.specs.in_document_definitions.Selected.{StandingField, field_name, response_key}
-use Rattle.rule_same_values.specs.in_document_definitions.Groups.{AgreeWithHead}
-use Rattle.rule_same_values.specs.in_document_definitions.ReadFields.{ReadField, ReadSameKey, ReadMayShare, ReadSameShape, ReadSameNameAndArguments}
-use Rattle.rule_same_values.specs.in_document_definitions.Merging.{SameKey, MayShare, SameShape, SameName, SameArgument, SameNameAndArguments, telling, telling_argument}
-use Rattle.rule_field_sets.specs.in_ground.Broken.{brokens_of}
+use Rattle.fault_document_errors.specs.DocumentBreaches.{ConflictingFieldName, ConflictingFieldArgument, ConflictingFieldType}
+use Rattle.fault_document_errors.specs.declared.build_error.BuildError.{BuildError}
+use Rattle.rule_selection_queries.specs.in_definitions.Judged.{Judged}
+use Rattle.rule_selection_queries.specs.in_document_definitions.DocumentFaults.{Broken, broken}
+use Rattle.rule_selection_queries.specs.in_document_definitions.Selected.{StandingField, field_name, response_key}
+use Rattle.rule_selection_queries.specs.in_document_definitions.Groups.{AgreeWithHead}
+use Rattle.rule_selection_queries.specs.in_document_definitions.ReadFields.{ReadField, ReadSameKey, ReadMayShare, ReadSameShape, ReadSameNameAndArguments}
+use Rattle.rule_selection_queries.specs.in_document_definitions.Merging.{SameKey, MayShare, SameShape, SameName, SameArgument, SameNameAndArguments, telling, telling_argument}
+use Rattle.rule_field_sets.specs.in_reach.Broken.{brokens_of}
+use Rattle.rule_field_groups.specs.LaterField.{IsInOrder}
 use Rattle.rule_field_groups.specs.declared.pass.Pass.{Pass}
 use Rattle.rule_field_groups.specs.declared.pass.Pass.TheVariants.{Shapes, Selections}
 
 module _ {P : Type 0} where
   -- ---- what is told of two fields
 
-  -- the coordinates of a field, of its argument of a name
+  -- the coordinate of a field; that of its argument of this name
   abbrev pub coordinate_of : StandingField P → Coordinate
   coordinate_of f = OfAttribute f.parent (field_name f)
 
@@ -45,22 +46,22 @@ module _ {P : Type 0} where
   Agree Shapes s = SameShape s
   Agree Selections s = SameNameAndArguments
 
-  -- two fields do not agree, and this tells it
-  abbrev pub TypesConflict : Judged → Broken P → StandingField P → StandingField P → Type 0
-  TypesConflict s fault f g = (SameShape s f g → ⊥) × (fault ≡ type_conflict f g)
+-- two fields do not agree, and the breach tells so, at the one that comes later in the text
+abbrev pub TypesConflict : Judged → Broken Place → StandingField Place → StandingField Place → Type 0
+TypesConflict s fault f g = (SameShape s f g → ⊥) × ((fault ≡ type_conflict f g) × IsInOrder f.place g.place)
 
-  abbrev pub NamesConflict : Broken P → StandingField P → StandingField P → Type 0
-  NamesConflict fault f g = (SameName f g → ⊥) × (fault ≡ name_conflict f g)
+abbrev pub NamesConflict : Broken Place → StandingField Place → StandingField Place → Type 0
+NamesConflict fault f g = (SameName f g → ⊥) × ((fault ≡ name_conflict f g) × IsInOrder f.place g.place)
 
-  abbrev pub ArgumentsConflict : Broken P → StandingField P → StandingField P → Type 0
-  ArgumentsConflict fault f g = (n : List ℕ) × ((SameArgument n f g → ⊥) × (fault ≡ argument_conflict n f g))
+abbrev pub ArgumentsConflict : Broken Place → StandingField Place → StandingField Place → Type 0
+ArgumentsConflict fault f g = (n : List ℕ) × ((SameArgument n f g → ⊥) × ((fault ≡ argument_conflict n f g) × IsInOrder f.place g.place))
 
-  abbrev pub SelectionsConflict : Broken P → StandingField P → StandingField P → Type 0
-  SelectionsConflict fault f g = NamesConflict fault f g ⊎ ArgumentsConflict fault f g
+abbrev pub SelectionsConflict : Broken Place → StandingField Place → StandingField Place → Type 0
+SelectionsConflict fault f g = NamesConflict fault f g ⊎ ArgumentsConflict fault f g
 
-  abbrev pub Conflict : Pass → Judged → Broken P → StandingField P → StandingField P → Type 0
-  Conflict Shapes s fault f g = TypesConflict s fault f g
-  Conflict Selections s fault f g = SelectionsConflict fault f g
+abbrev pub Conflict : Pass → Judged → Broken Place → StandingField Place → StandingField Place → Type 0
+Conflict Shapes s fault f g = TypesConflict s fault f g
+Conflict Selections s fault f g = SelectionsConflict fault f g
 
 -- ---- the passes, by what is read of fields
 
@@ -72,21 +73,21 @@ abbrev pub ReadAgree : Pass → Judged → ReadField → ReadField → Type 0
 ReadAgree Shapes s = ReadSameShape s
 ReadAgree Selections s = ReadSameNameAndArguments
 
--- the breaches that were there, as they stood, and behind them what tells of a conflict, if there is one; else all is the same
+-- the old breaches unchanged, and then one that tells of a conflict; or none is added, and there is no conflict
 abbrev pub AddsUnless : Type 0 → (Broken Place → Type 0) → Vec (Place × BuildError) Global → Vec (Place × BuildError) Global → Type 0
 AddsUnless Same Tells old new = (told : Option (Broken Place)) × ((brokens_of new ≡ brokens_of old ++ option_to_list told) × MatchOption told Same Tells)
 
--- of two fields that do not agree
+-- a breach about two fields is added, in one order or the other, unless they agree
 abbrev pub AddsTwo : Pass → Judged → StandingField Place → StandingField Place → Vec (Place × BuildError) Global → Vec (Place × BuildError) Global → Type 0
-AddsTwo pass s f g = AddsUnless (Agree pass s f g) (λ b. Conflict pass s b f g)
+AddsTwo pass s f g = AddsUnless (Agree pass s f g) (λ b. Conflict pass s b f g ⊎ Conflict pass s b g f)
 
--- each of these tells of two fields of the group; and where there is none, all agree with the first
+-- each of these tells of two fields of the group that do not agree; and if there is none, all agree with the first
 pub record TellsGroup (pass : Pass) (s : Judged) (group : List (StandingField Place)) (added : List (Broken Place)) : Type 0 where
   pub right : (fault : Broken Place) → Contains added fault
       → (f : StandingField Place) × ((g : StandingField Place) × (Contains group f × (Contains group g × Conflict pass s fault f g)))
   pub agree : added ≡ [] → AgreeWithHead (Agree pass s) group
 
--- each of these tells of two fields of one of the groups; and where there is none, all of each agree with its first
+-- each of these tells of two fields of one of the groups that do not agree; and if there is none, all of each group agree with its first
 pub record TellsEach (pass : Pass) (s : Judged) (groups : List (List (StandingField Place))) (added : List (Broken Place)) : Type 0 where
   pub right : (fault : Broken Place) → Contains added fault → (group : List (StandingField Place)) × (Contains groups group
       × ((f : StandingField Place) × ((g : StandingField Place) × (Contains group f × (Contains group g × Conflict pass s fault f g)))))
@@ -95,6 +96,6 @@ pub record TellsEach (pass : Pass) (s : Judged) (groups : List (List (StandingFi
 abbrev pub AddsEach : Pass → Judged → List (List (StandingField Place)) → Vec (Place × BuildError) Global → Vec (Place × BuildError) Global → Type 0
 AddsEach pass s groups old new = (added : List (Broken Place)) × ((brokens_of new ≡ brokens_of old ++ added) × TellsEach pass s groups added)
 
--- the breaches that were there, as they stood, and behind them those of the group
+-- the old breaches unchanged, and then those of the group
 abbrev pub AddsGroup : Pass → Judged → List (StandingField Place) → Vec (Place × BuildError) Global → Vec (Place × BuildError) Global → Type 0
 AddsGroup pass s group old new = (added : List (Broken Place)) × ((brokens_of new ≡ brokens_of old ++ added) × TellsGroup pass s group added)

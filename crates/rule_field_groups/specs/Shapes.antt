@@ -1,8 +1,8 @@
 -- Private: leads to `SameType` of the rules' definitions. Shapes of types, as tests.
 use Rattle.std.specs.Prelude.{ℕ, Bool, true, false, ◌&&◌, ◌||◌, List, bytes_eq}
 use Rattle.tree_literals.specs.TypeTree.{TypeTree, NamedTree, NonNullNamedTree, ListTree, NonNullListTree}
-use Rattle.rule_same_values.specs.in_definitions.Judged.{Judged}
-use Rattle.rule_same_values.specs.in_definitions.Names.{named_in}
+use Rattle.rule_selection_queries.specs.in_definitions.Judged.{Judged}
+use Rattle.rule_selection_queries.specs.in_definitions.Names.{named_in}
 use Rattle.rule_field_groups.specs.Kinds.{is_composite}
 
 abbrev pub same_marks : TypeTree (Unit {0}) → TypeTree (Unit {0}) → Bool

@@ -1,12 +1,12 @@
--- Private: leads to `FieldsMerge`. The lists of sets below the fields of one key.
+-- Private: leads to `FieldsMerge`. The lists of the sets of the fields of one key.
 use Rattle.std.specs.Prelude.{◌≡◌, ℕ, ◌⊎◌, ◌++◌, ◌∷◌, [], List, map, flat_map, Contains}
 use Rattle.std.specs.List.{AllZip}
 use Rattle.graphql_names.specs.Placed.{Place}
-use Rattle.rule_same_values.specs.in_meaning.MeantTree.{MeantSet}
-use Rattle.rule_same_values.specs.in_document_definitions.ReadFields.{list_read}
-use Rattle.rule_same_values.specs.in_document_definitions.Selected.{StandingField}
-use Rattle.rule_number_lists.specs.NumberRows.{rows_of}
-use Rattle.rule_number_lists.specs.declared.number_rows.NumberRows.{NumberRows}
+use Rattle.rule_selection_queries.specs.in_spec_document.MeantTree.{MeantSet}
+use Rattle.rule_selection_queries.specs.in_document_definitions.ReadFields.{list_read}
+use Rattle.rule_selection_queries.specs.in_document_definitions.Selected.{StandingField}
+use Rattle.list_interner.specs.NumberRows.{rows_of}
+use Rattle.list_interner.specs.declared.number_rows.NumberRows.{NumberRows}
 use Rattle.rule_field_sets.specs.Read.{set_content_at, node_read}
 use Rattle.rule_field_sets.specs.declared.member.Member.{Member}
 use Rattle.rule_field_groups.specs.Members.{meant_sets, read_sets, AreMembersOf}
@@ -16,7 +16,7 @@ use Rattle.rule_field_groups.specs.declared.groups.KeyGroup.{KeyGroup}
 use Rattle.rule_field_groups.specs.Below.{IsBare, AreSetsOf}
 use Rattle.rule_field_sets.specs.declared.field_sets.FieldSets.{FieldSets}
 
--- sets whose fields are examined together; such lists, as nodes
+-- sets whose fields are examined together; lists of such sets, from lists of nodes
 abbrev pub Sets : Type 0
 Sets = List (MeantSet Place)
 
@@ -26,7 +26,7 @@ all_sets w lists = map (meant_sets w) lists
 abbrev pub sets_in : FieldSets → NumberRows → List Sets
 sets_in w lists = all_sets w (rows_of lists)
 
--- behind the first ones those, if there are some, are one list more
+-- one list: the first ones and then those; no list, if there are none of those
 abbrev pub joined : {X : Type 0} → List X → List X → List (List X)
 joined first [] = []
 joined first (x ∷ xs) = (first ++ x ∷ xs) ∷ []
@@ -34,23 +34,23 @@ joined first (x ∷ xs) = (first ++ x ∷ xs) ∷ []
 abbrev pub JoinsSets : {X : Type 0} → List X → List X → List (List X) → List (List X) → Type 0
 JoinsSets first then' old new = new ≡ old ++ joined first then'
 
--- each of these sets with the last
+-- pairs of each of these sets with `v`
 abbrev pub each_with : {X : Type 0} → List X → X → List (List X)
 each_with sets v = map (λ w. w ∷ v ∷ []) sets
 
--- each of the first ones with each of those
+-- pairs of each of the first ones with each of those
 abbrev pub twos_of : {X : Type 0} → List X → List X → List (List X)
 twos_of first then' = flat_map (each_with first) then'
 
--- those are a list, if there are some, and each of the first ones with each of them
+-- what is appended: those as a list, if there are some, and pairs of each of the first ones with each of those
 abbrev pub JoinsTwos : {X : Type 0} → List X → List X → List (List X) → List (List X) → Type 0
 JoinsTwos first then' old new = new ≡ (old ++ joined [] then') ++ twos_of first then'
 
--- one of these lists has any two sets, if the second is one of those
+-- for any two sets, the second one from `then'`, one of these lists has both
 abbrev pub HaveAnyTwo : {X : Type 0} → List X → List X → List (List X) → Type 0
 HaveAnyTwo {X} first then' lists = (v w : X) → Contains (first ++ then') v → Contains then' w → (sets : List X) × (Contains lists sets × (Contains sets v × Contains sets w))
 
--- such lists of nothing else come last
+-- lists that have only sets of both are appended, and for any two sets, the second one from `then'`, one of the lists has both
 pub record PutsTogether {X : Type 0} (first then' : List X) (old new : List (List X)) : Type 0 where
   pub added : List (List X)
   pub is : new ≡ old ++ added
@@ -61,49 +61,49 @@ pub record PutsTogether {X : Type 0} (first then' : List X) (old new : List (Lis
 abbrev pub AreOf : List (StandingField Place) → Sets → Type 0
 AreOf group sets = (v : MeantSet Place) → Contains sets v → (f : StandingField Place) × (Contains group f × (f.set ≡ v))
 
--- the set is read as one of these
+-- the set has the content of one of these
 abbrev pub IsAmong : Sets → MeantSet Place → Type 0
 IsAmong sets v = Contains (read_sets sets) (list_read v)
 
--- each is that of one of the fields, and the set of each that has selections is among these or the others
+-- each of the sets is that of one of the fields, and the set of each field has no selections or is among these or the others
 pub record AreFurther (fields : List (StandingField Place)) (others sets : Sets) : Type 0 where
   pub within : AreOf fields sets
   pub covers : (f : StandingField Place) → Contains fields f → IsBare f.set ⊎ (IsAmong others f.set ⊎ IsAmong sets f.set)
 
--- with one more field
+-- the same with one more field
 abbrev pub AddsFurther : StandingField Place → Sets → Sets → Sets → Type 0
 AddsFurther field others old new = (fields : List (StandingField Place)) → AreFurther fields others old → AreFurther (fields ++ field ∷ []) others new
 
--- where both select something, one of these lists has the sets of both
+-- if both fields select something, one of these lists has the sets of both
 abbrev pub HaveBoth : List Sets → StandingField Place → StandingField Place → Type 0
 HaveBoth lists f g = IsBare f.set ⊎ (IsBare g.set ⊎ ((sets : Sets) × (Contains lists sets × (IsAmong sets f.set × IsAmong sets g.set))))
 
--- as far as lists were made: of what is shared, whose sets are these, and of what is on some types
+-- the lists made so far: for the shared fields, whose sets are `first`, and for the fields on each of some types
 pub record BelowSoFar (shared : List (StandingField Place)) (first : Sets) (owns : List (List (StandingField Place))) (lists : List Sets) : Type 0 where
   pub under : (sets : Sets) → Contains lists sets → AreOf shared sets ⊎ ((own : List (StandingField Place)) × (Contains owns own × AreOf (shared ++ own) sets))
   pub shared_there : (v : MeantSet Place) → IsAmong first v → Contains lists first
   pub own_there : (own : List (StandingField Place)) → Contains owns own → (further : Sets) × (((f : StandingField Place) → Contains own f → IsBare f.set ⊎ (IsAmong first f.set ⊎ IsAmong further f.set))
       × HaveAnyTwo first further lists)
 
--- and after the lists of what is shared, those of these types come last
+-- the lists for the fields on each of these types are appended, after those for the shared fields
 abbrev pub JoinsEach : Sets → List (List (StandingField Place)) → List Sets → List Sets → Type 0
 JoinsEach first owns old new = (added : List Sets) × ((new ≡ old ++ added)
     × ((shared : List (StandingField Place)) → AreSetsOf shared first → (begun : List Sets) → BelowSoFar shared first [] begun → BelowSoFar shared first owns (begun ++ added)))
 
--- lists of sets of fields of one of the groups each: of any two fields of a group one of them has both sets
+-- each list has sets of fields of one group only; and for any two fields of a group that select something one of the lists has both sets
 pub record AreListsBelow (groups : List (List (StandingField Place))) (lists : List Sets) : Type 0 where
   pub under : (sets : Sets) → Contains lists sets → (group : List (StandingField Place)) × (Contains groups group × AreOf group sets)
   pub below : (group : List (StandingField Place)) → Contains groups group → (f g : StandingField Place) → Contains group f → Contains group g → HaveBoth lists f g
 
--- such lists come last
+-- such lists are appended
 abbrev pub AddsBelow : List (List (StandingField Place)) → List Sets → List Sets → Type 0
 AddsBelow groups old new = (below : List Sets) × ((new ≡ old ++ below) × AreListsBelow groups below)
 
--- the set of each node is read as the number that stands beside it
+-- the set of each node has the content of the number at the same index
 abbrev pub AreNumbered : FieldSets → SetsBelow → Type 0
 AreNumbered w found = AllZip (λ n i. set_content_at w n ≡ node_read w i) found.numbers.keys found.nodes.items
 
--- the node is put last with its number, unless that is there
+-- the node is appended with its number, unless the number is there
 abbrev pub AddsNode : ℕ → ℕ → SetsBelow → SetsBelow → Type 0
 AddsNode number node old new =
     (Contains old.numbers.keys number × ((new.numbers.keys ≡ old.numbers.keys) × (new.nodes.items ≡ old.nodes.items)))

@@ -1,21 +1,21 @@
-//! The sets below a group of fields.
+//! The sets of a group of fields.
 ghost use Rattle.std.specs.Prelude.{◌≡◌, ◌++◌, ◌∷◌, [], map, Contains, IfOk, OnOk};
 ghost use Rattle.rule_field_sets.specs.Nodes.{AreSets, HasMember};
-ghost use Rattle.rule_number_lists.specs.NumberRows.{rows_of};
+ghost use Rattle.list_interner.specs.NumberRows.{rows_of};
 ghost use Rattle.rule_field_groups.specs.Members.{field_of, fields_of, meant_sets, AreMembersOf};
 ghost use Rattle.rule_field_groups.specs.Below.{AreSetsOf, NotesSet};
 ghost use Rattle.rule_field_groups.specs.Under.{sets_in, each_with, AddsBelow, AreFurther, AddsFurther, JoinsSets, JoinsTwos, PutsTogether, JoinsEach, AreNumbered, AddsNode, IsGroupOf};
 ghost use Rattle.rule_field_groups.specs.KeyGroups.{parts_of};
 
-use crate::groups::{KeyGroup, OwnFields};
+use crate::groups::KeyGroup;
 use crate::nodes::number_of;
 use indexmap::IndexSet;
+use list_interner::NumberRows;
 use rule_field_sets::{FieldSets, Member};
-use rule_number_lists::NumberRows;
 use std::alloc::{AllocError, Global};
 
-/// Lists of shared sets and others are made whole if they are for so few types, or at most so many times as long as the others: so
-/// the lists below a group are in all not much longer than the group is.
+/// A list of the shared sets and the others is made whole if it is for so few types, or if the shared sets are at most so
+/// many times as many as the others: so the lists for a group are in all not much longer than the group is.
 const FEW: usize = 4;
 
 /// Sets of fields, each number once, by their nodes.
@@ -26,7 +26,7 @@ pub(crate) struct SetsBelow {
 }
 
 impl SetsBelow {
-    /// None.
+    /// No sets.
     fn new(alloc: Global) -> SetsBelow
         ensures numbers { result.numbers.keys ≡ [] }
         ensures nodes { result.nodes.items ≡ [] }
@@ -138,7 +138,7 @@ fn push_joined(first: &[usize], further: &[usize], lists: &mut NumberRows) -> Re
     lists.push(first, further)
 }
 
-/// Adds a list of two for each of the nodes: it and the last.
+/// Adds a list of two for each of the nodes: the node and the last one.
 fn push_each_with(nodes: &[usize], last: usize, lists: &mut NumberRows) -> Result<(), AllocError>
     ensures { OnOk result (rows_of lists.new ≡ rows_of lists.old ++ each_with nodes.now last) }
 {
@@ -159,13 +159,13 @@ fn push_apart(first: &[usize], further: &[usize], lists: &mut NumberRows) -> Res
     Ok(())
 }
 
-/// Whether the first sets stand with the further ones in one list, where there are lists for so many types.
+/// Whether the first sets are in one list with the further ones, if there are lists for so many types.
 fn is_short(types: usize, first: usize, further: usize) -> bool {
     types <= FEW || first / FEW <= further
 }
 
-/// Adds lists of the first nodes and the further ones, for one of so many types: one of them has any two, if one of these is a further
-/// one.
+/// Adds lists of the first nodes and the further ones, for one of so many types: one of the lists has any two of them, if
+/// one of these is a further one.
 fn push_together(
     types: usize,
     first: &[usize],
@@ -180,28 +180,28 @@ fn push_together(
     push_apart(first, further, lists)
 }
 
-/// Adds lists for each object type, of the shared sets and the further ones of its fields. A type without further ones has none.
+/// For each object type, adds lists of the shared sets and the further ones of its fields. A type without further ones gets none.
 fn push_own_lists(
     alloc: Global,
     sets: &FieldSets<'_>,
-    owns: &[OwnFields<'_>],
+    owns: &[Vec<Member<'_>>],
     shared: &SetsBelow,
     lists: &mut NumberRows,
 ) -> Result<(), AllocError>
     requires sets { AreSets sets.now }
-    requires members { (own : _) → Contains (map (λ o. o.fields.items) owns.now) own → AreMembersOf sets.now own }
+    requires members { (own : _) → Contains (map (λ o. o.items) owns.now) own → AreMembersOf sets.now own }
     requires shared { AreNumbered sets.now shared.now }
-    ensures { OnOk result (JoinsEach (meant_sets sets.now shared.now.nodes.items) (map (λ o. fields_of o.fields.items) owns.now) (sets_in sets.now lists.old) (sets_in sets.now lists.new)) }
+    ensures { OnOk result (JoinsEach (meant_sets sets.now shared.now.nodes.items) (map (λ o. fields_of o.items) owns.now) (sets_in sets.now lists.old) (sets_in sets.now lists.new)) }
 {
     for own in owns {
-        let nodes = further_sets(alloc, sets, &own.fields, shared)?;
+        let nodes = further_sets(alloc, sets, own, shared)?;
         push_together(owns.len(), &shared.nodes, &nodes, lists)?;
     }
     Ok(())
 }
 
-/// Adds the lists of nodes below the fields of one key: those of the shared sets, and for each object type these and its own, in one
-/// list or in lists of two. For any two fields that go together, one of the lists has the sets of both.
+/// Adds the lists of nodes for the sets of fields of one key: a list of the shared sets, and for each object type these and
+/// its own, in one list or in lists of two. For any two fields that go together, one of the lists has the sets of both.
 pub fn push_lists_below(
     alloc: Global,
     sets: &FieldSets<'_>,
@@ -240,7 +240,7 @@ fn note_node(
     Ok(())
 }
 
-/// Adds a list of the sets below a few fields that go together, unless none of them has selections. No index is made.
+/// Adds a list of the sets of a few fields that go together, unless none of them has selections. No index is made.
 pub fn push_below(
     alloc: Global,
     sets: &FieldSets<'_>,

@@ -1,27 +1,28 @@
 //! Conflicts of two fields.
 ghost use Rattle.std.specs.Prelude.{◌≡◌, ◌↔◌, ◌≤◌, ◌+◌, ◌++◌, ◌∷◌, min, map, take, drop, IfOk, IsTrue, OnOk};
 ghost use Rattle.schema_coordinates.specs.CoordinateView.{attribute_coordinate, argument_coordinate};
-ghost use Rattle.fault_document_data.specs.DocumentBreachView.{value_in_conflict};
+ghost use Rattle.fault_document_errors.specs.DocumentBreachView.{value_in_conflict};
 ghost use Rattle.rule_field_sets.specs.in_schema.SchemaOf.{schema_tree};
-ghost use Rattle.rule_same_values.specs.in_definitions.Judged.{judged};
-ghost use Rattle.rule_same_values.specs.in_document_definitions.Merging.{SameName};
-ghost use Rattle.rule_same_values.specs.in_document_definitions.SameValues.{plain_given};
-ghost use Rattle.rule_field_sets.specs.in_ground.Broken.{broken_of};
+ghost use Rattle.rule_selection_queries.specs.in_definitions.Judged.{judged};
+ghost use Rattle.rule_selection_queries.specs.in_document_definitions.Merging.{SameName};
+ghost use Rattle.rule_selection_queries.specs.in_document_definitions.SameValues.{plain_given};
+ghost use Rattle.rule_field_sets.specs.in_reach.Broken.{broken_of};
 ghost use Rattle.rule_field_groups.specs.Members.{field_of, fields_of};
 ghost use Rattle.rule_field_groups.specs.Passes.{AddsTwo, AddsGroup, AddsEach, coordinate_of, coordinate_of_argument, type_conflict, name_conflict, argument_conflict};
 ghost use Rattle.rule_field_groups.specs.Compared.{compared, compared_once, greatest_count, CountsUp};
 ghost use Rattle.rule_field_groups.specs.KeyGroups.{parts_of, compared_in};
-ghost use Rattle.rule_field_groups.specs.Conflicts.{judged_by, AddsTypes, AddsNames, AddsArguments};
+ghost use Rattle.rule_field_groups.specs.LaterField.{IsInOrder};
+ghost use Rattle.rule_field_groups.specs.Conflicts.{judged_by, AreInTextOrder, AddsTypes, AddsNames, AddsArguments};
 
-use crate::groups::{KeyGroup, OwnFields};
+use crate::groups::KeyGroup;
 use crate::pass::{Comparing, Pass};
 use crate::shapes::same_type;
-use fault_document_data::{
+use fault_document_errors::{
     BuildError, ConflictingFieldArgument, ConflictingFieldName, ConflictingFieldType,
 };
 use graphql_names::{Name, SourceSpan};
 use rule_field_sets::{Member, Schema, push_breach};
-use rule_same_values::differing_argument;
+use rule_selection_queries::differing_argument;
 use schema_coordinates::{FieldArgumentCoordinate, TypeAttributeCoordinate};
 use std::alloc::{AllocError, Global};
 use tree_literals::{Value, copies_of_three};
@@ -29,12 +30,35 @@ use tree_literals::{Value, copies_of_three};
 /// What breaks a rule, with its place.
 pub type Breach = (Option<SourceSpan>, BuildError);
 
-/// One more, or no more where this is the greatest number.
+/// One more; unchanged if the count is the greatest number.
 fn count_one(count: &mut u128)
     ensures value { count.new ≡ min (count.old + 1) greatest_count }
     ensures counts { CountsUp count.old 1 count.new }
 {
     *count = count.saturating_add(1);
+}
+
+/// Whether the first place does not come after the second, where both are in one text.
+fn is_in_order(first: Option<SourceSpan>, second: Option<SourceSpan>) -> bool
+    ensures { IsTrue result ↔ IsInOrder first second }
+{
+    let (Some(first), Some(second)) = (first, second) else {
+        return true;
+    };
+    first.file_id != second.file_id || first.offset <= second.offset
+}
+
+/// Two fields in the order of the text, where both are in one text; else as they are.
+fn in_text_order<'doc>(first: Member<'doc>, other: Member<'doc>) -> (Member<'doc>, Member<'doc>)
+    ensures { AreInTextOrder first.entry other.entry result }
+{
+    if is_in_order(
+        first.selection.field.location(),
+        other.selection.field.location(),
+    ) {
+        return (first, other);
+    }
+    (other, first)
 }
 
 /// The coordinates of two fields.
@@ -92,7 +116,8 @@ fn conflicting_field_type(
     ) {
         return Ok(());
     }
-    let conflict = told_types(*breaches.allocator(), first, other)?;
+    let (earlier, later) = in_text_order(first, other);
+    let conflict = told_types(*breaches.allocator(), earlier, later)?;
     push_breach(breaches, Some(conflict))
 }
 
@@ -132,7 +157,8 @@ fn conflicting_field_name(
     if have_one_name(first, other) {
         return Ok(());
     }
-    let conflict = told_names(*breaches.allocator(), first, other)?;
+    let (earlier, later) = in_text_order(first, other);
+    let conflict = told_names(*breaches.allocator(), earlier, later)?;
     push_breach(breaches, Some(conflict))
 }
 
@@ -233,13 +259,15 @@ fn conflicting_field_argument(
     match differing {
         None => Ok(()),
         Some(name) => {
-            let conflict = told_arguments(alloc, first, other, &name)?;
+            let (earlier, later) = in_text_order(first, other);
+            let conflict = told_arguments(alloc, earlier, later, &name)?;
             push_breach(breaches, Some(conflict))
         }
     }
 }
 
-/// Tells of two fields of a group, if they do not agree: of their shapes, or of their names or else of their arguments.
+/// Tells of two fields of a group, if they do not agree: of their shapes; or of their names, and if these agree, of their
+/// arguments.
 fn check_two(
     comparing: &Comparing<'_>,
     first: Member<'_>,
@@ -302,54 +330,21 @@ pub fn check_group(
     }
 }
 
-/// Tells each of the fields before another one that does not agree with the first of them; and the other, if it does not.
-fn check_before(
-    comparing: &Comparing<'_>,
-    before: &[Member<'_>],
-    other: Member<'_>,
-    breaches: &mut Vec<Breach>,
-    comparisons: &mut u128,
-) -> Result<(), AllocError>
-    ensures told { OnOk result (AddsGroup comparing.now.pass (judged_by comparing.now) (fields_of (other.entry ∷ before.now)) breaches.old breaches.new) }
-    ensures more { comparisons.old ≤ comparisons.new }
-    ensures counted { comparisons.new ≤ comparisons.old + compared comparing.now.pass before.now }
-{
-    match before.split_first() {
-        None => Ok(()),
-        Some((first, others)) => {
-            check_others(comparing, *first, others, breaches, comparisons)?;
-            check_others(comparing, *first, &[other], breaches, comparisons)
-        }
-    }
-}
-
-/// Tells the fields on one object type that do not agree with the first shared one, or with their own first if none is
-/// shared. The later of two is told: the early fields are before the first shared one.
+/// Tells the fields on one object type that do not agree with the first shared one, or with their own first if none is shared.
 fn check_own(
     comparing: &Comparing<'_>,
     shared: &[Member<'_>],
-    own: &OwnFields<'_>,
+    own: &[Member<'_>],
     breaches: &mut Vec<Breach>,
     comparisons: &mut u128,
 ) -> Result<(), AllocError>
-    ensures told { OnOk result (AddsGroup comparing.now.pass (judged_by comparing.now) (fields_of (take 1 shared.now ++ own.now.fields.items)) breaches.old breaches.new) }
+    ensures told { OnOk result (AddsGroup comparing.now.pass (judged_by comparing.now) (fields_of (take 1 shared.now ++ own.now)) breaches.old breaches.new) }
     ensures more { comparisons.old ≤ comparisons.new }
-    ensures counted { comparisons.new ≤ comparisons.old + compared comparing.now.pass own.now.fields.items }
+    ensures counted { comparisons.new ≤ comparisons.old + compared comparing.now.pass own.now }
 {
-    let fields = own.fields.as_slice();
     match shared.split_first() {
-        None => check_group(
-            comparing.pass,
-            comparing.schema,
-            fields,
-            breaches,
-            comparisons,
-        ),
-        Some((first, _)) => {
-            let (before, behind) = fields.split_at(own.early.min(fields.len()));
-            check_before(comparing, before, *first, breaches, comparisons)?;
-            check_others(comparing, *first, behind, breaches, comparisons)
-        }
+        None => check_group(comparing.pass, comparing.schema, own, breaches, comparisons),
+        Some((first, _)) => check_others(comparing, *first, own, breaches, comparisons),
     }
 }
 

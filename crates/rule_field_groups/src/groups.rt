@@ -3,11 +3,11 @@ ghost use Rattle.std.specs.Prelude.{◌≡◌, ◌≤◌, ◌+◌, ℕ, ◌++◌
 ghost use Rattle.std.specs.List.{sum};
 ghost use Rattle.std.specs.Str.{bytes_eq};
 ghost use Rattle.indexmap.specs.IndexMap.{get, IsUnique};
-ghost use Rattle.rule_same_values.specs.in_definitions.in_components.Names.{same_text};
+ghost use Rattle.rule_selection_queries.specs.in_definitions.in_components.Names.{same_text};
 ghost use Rattle.schema_types.specs.TypeView.{name_text};
 ghost use Rattle.rule_field_sets.specs.in_schema.SchemaOf.{schema_tree};
-ghost use Rattle.rule_same_values.specs.in_definitions.Judged.{judged};
-ghost use Rattle.rule_same_values.specs.in_document_definitions.Groups.{AreGroups};
+ghost use Rattle.rule_selection_queries.specs.in_definitions.Judged.{judged};
+ghost use Rattle.rule_selection_queries.specs.in_document_definitions.Groups.{AreGroups};
 ghost use Rattle.rule_field_groups.specs.Members.{fields_of};
 ghost use Rattle.rule_field_groups.specs.Compared.{compared};
 ghost use Rattle.rule_field_groups.specs.Passes.{Together};
@@ -38,7 +38,7 @@ fn push_under<'doc>(
     insert_under(alloc, index, name, field)
 }
 
-/// Adds a field under a name that nothing stands under.
+/// Adds a field under a name that has no fields yet.
 fn insert_under<'doc>(
     alloc: Global,
     index: &mut IndexMap<Name, Vec<Member<'doc>>>,
@@ -119,7 +119,7 @@ fn index_of<'doc>(
     Ok(index)
 }
 
-/// What an index has under its names, name by name.
+/// The lists of an index, name by name.
 fn groups_in<'doc>(
     alloc: Global,
     index: IndexMap<Name, Vec<Member<'doc>>>,
@@ -155,14 +155,7 @@ fn filed<'doc>(
 /// those on each object type. One object may have the shared ones and those of one type.
 pub struct KeyGroup<'doc> {
     pub(crate) shared: Vec<Member<'doc>>,
-    pub(crate) own: Vec<OwnFields<'doc>>,
-}
-
-/// The fields on one object type.
-pub struct OwnFields<'doc> {
-    pub(crate) fields: Vec<Member<'doc>>,
-    /// How many of them are before the first shared one, in the order of the list.
-    pub(crate) early: usize,
+    pub(crate) own: Vec<Vec<Member<'doc>>>,
 }
 
 // Not derived: a derived drop is proved again in each crate that drops one.
@@ -172,16 +165,7 @@ impl Drop for KeyGroup<'_> {
     }
 }
 
-impl Drop for OwnFields<'_> {
-    fn drop(self) {
-        let OwnFields {
-            fields: _,
-            early: _,
-        } = self;
-    }
-}
-
-/// A group in which all fields are shared: shapes are compared whatever the types that fields are selected on.
+/// A group in which all fields are shared: shapes are compared for any types that fields are selected on.
 fn all_shared<'doc>(alloc: Global, shared: Vec<Member<'doc>>) -> KeyGroup<'doc>
     ensures shared { result.shared.items ≡ shared.entry.items }
     ensures own { own_lists result ≡ [] }
@@ -226,45 +210,6 @@ fn object_fields<'doc>(
     Ok(found)
 }
 
-/// How many of the fields on each object type are before the first one on an abstract type, in the order of these types.
-fn early_counts(
-    alloc: Global,
-    schema: &Schema,
-    list: &[Member<'_>],
-) -> Result<Vec<usize>, AllocError> {
-    let mut leading = Vec::new(alloc);
-    for field in list {
-        if is_abstract(schema, field.selection.parent_type) {
-            break;
-        }
-        leading.push(*field)?;
-    }
-    let mut counts = Vec::new(alloc);
-    for fields in &filed(alloc, Filing::Parent, &leading)? {
-        counts.push(fields.len())?;
-    }
-    Ok(counts)
-}
-
-/// The lists, each with its count of `early`, or 0 where that is shorter.
-fn own_fields<'doc>(
-    alloc: Global,
-    lists: Vec<Vec<Member<'doc>>>,
-    early: &[usize],
-) -> Result<Vec<OwnFields<'doc>>, AllocError>
-    ensures { IfOk result (λ own. map (λ o. o.fields.items) own.items ≡ lists_of lists.entry) }
-{
-    let mut own = Vec::with_capacity(alloc, lists.len())?;
-    for fields in lists {
-        let early = match early.get(own.len()) {
-            Some(count) => *count,
-            None => 0,
-        };
-        own.push(OwnFields { fields, early })?;
-    }
-    Ok(own)
-}
-
 /// The fields of one key that are all selected on one type.
 fn on_one_parent<'doc>(
     alloc: Global,
@@ -275,13 +220,11 @@ fn on_one_parent<'doc>(
     ensures parents { IfOk result (λ group. IsByParents (judged (schema_tree schema.now)) list.now group) }
     ensures once { IfOk result (λ group. sum (map length (lists_in_group group)) ≡ length list.now) }
 {
-    let fields = Vec::from_slice(alloc, list)?;
     if is_abstract(schema, list[0].selection.parent_type) {
+        let fields = Vec::from_slice(alloc, list)?;
         return Ok(all_shared(alloc, fields));
     }
-    let early = fields.len();
-    let mut own = Vec::with_capacity(alloc, 1)?;
-    own.push(OwnFields { fields, early })?;
+    let own = one_group(alloc, list)?;
     let none = Vec::new(alloc);
     Ok(KeyGroup { shared: none, own })
 }
@@ -300,9 +243,7 @@ fn by_parents<'doc>(
     }
     let shared = abstract_fields(alloc, schema, list)?;
     let objects = object_fields(alloc, schema, list)?;
-    let filed = filed(alloc, Filing::Parent, &objects)?;
-    let early = early_counts(alloc, schema, list)?;
-    let own = own_fields(alloc, filed, &early)?;
+    let own = filed(alloc, Filing::Parent, &objects)?;
     Ok(KeyGroup { shared, own })
 }
 

@@ -1,7 +1,7 @@
 //! Which types are abstract, and which are composite.
 ghost use Rattle.std.specs.Prelude.{◌≡◌};
 ghost use Rattle.rule_field_sets.specs.in_schema.SchemaOf.{schema_tree};
-ghost use Rattle.rule_same_values.specs.in_definitions.Judged.{judged};
+ghost use Rattle.rule_selection_queries.specs.in_definitions.Judged.{judged};
 ghost use Rattle.rule_field_groups.specs.Kinds.{is_abstract, is_abstract_kind, is_composite};
 
 use graphql_names::Name;

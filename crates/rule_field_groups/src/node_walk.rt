@@ -3,27 +3,27 @@ ghost use Rattle.std.specs.Prelude.{◌≡◌, OnOk, IfOk, IsTrue};
 ghost use Rattle.rule_field_sets.specs.Nodes.{AreSets, HasAllStarts};
 ghost use Rattle.rule_field_groups.specs.Members.{meant_sets, AreMembersOf};
 ghost use Rattle.rule_field_groups.specs.Below.{IsMerged, IsPartOfMerged};
-ghost use Rattle.rule_field_sets.specs.in_ground.Fields.{meant_fragments};
+ghost use Rattle.rule_field_sets.specs.in_reach.Fields.{meant_fragments};
 ghost use Rattle.rule_field_groups.specs.NodeWalk.{state_of, with_paid, PassesMember, PassesMembers, PassesSpreads, PassesNode, WalksOn, WalksOver};
 
 use crate::nodes::{fragment_of, node_of};
 use indexmap::IndexSet;
+use list_interner::NumberSet;
 use rule_field_sets::{FieldSets, Member, SetNode};
-use rule_number_lists::NumberSet;
 use std::alloc::{AllocError, Global};
 
-/// What a walk may cost: a step for each field and each spread that it passes. Fields that were not met before pay for more.
+/// What a walk may cost: a step for each field and each spread that it visits. Fields that were not met before pay for more.
 #[derive(Clone, Copy)]
 pub struct Toll<'a> {
     /// The numbers of the fields that were met.
     pub met: &'a NumberSet,
-    /// How many steps are paid.
+    /// How many steps are paid in advance.
     pub paid: usize,
-    /// How many steps a field pays that was not met.
+    /// How many steps each field pays that was not met before.
     pub each: usize,
 }
 
-/// What sets select, through fragments: all of it, or of a walk that was not paid to its end the first part; each number once.
+/// What sets select, through fragments, each number once: all of it, or only the first part if the walk was not paid to its end.
 pub struct MergedList<'doc> {
     pub members: Vec<Member<'doc>>,
     pub is_whole: bool,
@@ -42,14 +42,14 @@ impl Drop for MergedList<'_> {
     }
 }
 
-/// A walk over the sets of nodes, one after the other, for the fields that they select. A fragment is walked once for all of them: what
-/// it selects is there when a later set spreads it.
+/// A walk over the sets of nodes, one after the other, for the fields that they select. A fragment is walked once for all of
+/// them: what it selects is there when a later set spreads it.
 #[derive(Drop)]
 struct NodeWalk<'doc> {
     members: Vec<Member<'doc>>,
-    /// The numbers of these.
+    /// The numbers of these fields.
     numbers: NumberSet,
-    /// The fragments that are spread, by their places in the document, in the order of their first spreads.
+    /// The fragments that are spread, by their indices in the document, in the order of their first spreads.
     spread: IndexSet<usize>,
     /// How many of these fields were not met before.
     fresh: usize,
@@ -57,7 +57,7 @@ struct NodeWalk<'doc> {
     is_whole: bool,
 }
 
-/// Whether some of these fields may be such as were not met. They are met in their order, so where the last one was met all were.
+/// Whether some of these fields may be new. Fields are met in their order, so if the last one was met, all were.
 fn may_pay(toll: Toll<'_>, members: &[Member<'_>]) -> bool {
     match members.last() {
         None => true,
@@ -66,8 +66,8 @@ fn may_pay(toll: Toll<'_>, members: &[Member<'_>]) -> bool {
 }
 
 impl<'doc> NodeWalk<'doc> {
-    /// Whether the steps so far are paid, and where the next node has no fields that pay, so many more too. Then these are taken; else
-    /// the walk is not whole.
+    /// Whether the steps so far are paid, and, if the next node has no fields that pay, so many more too. Then these are
+    /// taken; otherwise the walk is not whole.
     fn steps_on(&mut self, toll: Toll<'_>, more: usize, pays: bool) -> bool
         ensures { state_of self.new ≡ with_paid result (state_of self.old) }
     {
@@ -84,7 +84,7 @@ impl<'doc> NodeWalk<'doc> {
         true
     }
 
-    /// Counts a field that was not met before.
+    /// Counts a field, if it was not met before.
     fn count_fresh(&mut self, toll: Toll<'_>, number: usize)
         ensures { state_of self.new ≡ state_of self.old }
     {
@@ -126,7 +126,7 @@ impl<'doc> NodeWalk<'doc> {
         Ok(())
     }
 
-    /// Passes the fields and the spreads of a node, if that is paid.
+    /// Visits the fields and the spreads of a node, if that is paid.
     fn pass_node(&mut self, toll: Toll<'_>, node: &SetNode<'doc>) -> Result<(), AllocError>
         ensures { OnOk result (PassesNode node.now (state_of self.old) (state_of self.new)) }
     {
@@ -139,7 +139,7 @@ impl<'doc> NodeWalk<'doc> {
         self.note_spreads(&node.spreads)
     }
 
-    /// Passes the fragments that are noted from this one on, and those that they lead to.
+    /// Visits the fragments that are noted, from this index on, and those that they lead to.
     fn pass_fragments(
         &mut self,
         toll: Toll<'_>,
@@ -157,7 +157,7 @@ impl<'doc> NodeWalk<'doc> {
         Ok(())
     }
 
-    /// Walks over the set of a node, and over each fragment that it reaches and that no set before it does.
+    /// Walks over the set of a node, and over each fragment that it reaches and that no set before it reached.
     fn walk(
         &mut self,
         toll: Toll<'_>,

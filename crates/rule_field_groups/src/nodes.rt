@@ -1,8 +1,8 @@
-//! Nodes by their numbers. There is a node of each number that is asked for; what is not there is told as if memory did not suffice.
-// The prover is not told everywhere that there is one: so lists of nodes need no clause that says it.
+//! Nodes by their indices. There is a node for each index that is asked for; a missing one fails as if memory were refused.
+// The prover need not know that there is one, so lists of nodes need no clause that says so.
 ghost use Rattle.std.specs.Prelude.{◌≡◌, Some, slice_get, IfOk};
 ghost use Rattle.std.specs.List.{AllZip};
-ghost use Rattle.rule_same_values.specs.in_document_definitions.ReadFields.{list_read};
+ghost use Rattle.rule_selection_queries.specs.in_document_definitions.ReadFields.{list_read};
 ghost use Rattle.rule_field_sets.specs.Nodes.{AreSets, set_nodes, fragment_nodes};
 ghost use Rattle.rule_field_sets.specs.Read.{set_at, set_content_at};
 ghost use Rattle.rule_field_groups.specs.NodeWalk.{IsStartOf};
@@ -10,7 +10,7 @@ ghost use Rattle.rule_field_groups.specs.NodeWalk.{IsStartOf};
 use rule_field_sets::{FieldSets, SetNode};
 use std::alloc::{AllocError, Global};
 
-/// The node of that number.
+/// The node with that index.
 pub fn node_of<'a, 'doc>(
     sets: &'a FieldSets<'doc>,
     node: usize,
@@ -31,7 +31,7 @@ pub(crate) fn number_of(sets: &FieldSets<'_>, node: usize) -> Result<usize, Allo
     Ok(node_of(sets, node)?.number)
 }
 
-/// The node of the set of a fragment, by the fragment's place in the document.
+/// The node of the set of a fragment, by the fragment's index in the document.
 pub(crate) fn start_of(sets: &FieldSets<'_>, fragment: usize) -> Result<usize, AllocError>
     ensures { IfOk result (λ n. slice_get (fragment_nodes sets.now) fragment ≡ Some n) }
 {

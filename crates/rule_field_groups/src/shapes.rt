@@ -2,7 +2,7 @@
 ghost use Rattle.std.specs.Prelude.{◌≡◌};
 ghost use Rattle.tree_literals.specs.TypeTree.{type_tree, unplaced_type};
 ghost use Rattle.rule_field_sets.specs.in_schema.SchemaOf.{schema_tree};
-ghost use Rattle.rule_same_values.specs.in_definitions.Judged.{judged};
+ghost use Rattle.rule_selection_queries.specs.in_definitions.Judged.{judged};
 ghost use Rattle.rule_field_groups.specs.Shapes.{same_marks, same_inner, same_type};
 
 use crate::kinds::is_composite;
@@ -35,8 +35,8 @@ fn same_lists_and_marks(a: &Type, b: &Type) -> bool
     }
 }
 
-/// Whether values of two types have one shape: lists and marks are alike, and the names in them are equal, or both are of
-/// objects, interfaces or unions (section 5.3.2, "SameResponseShape").
+/// Whether values of two types have one shape: their lists and non-null marks are the same, and their names are equal, or
+/// both are of objects, interfaces or unions (section 5.3.2, "SameResponseShape").
 pub(crate) fn same_type(schema: &Schema, a: &Type, b: &Type) -> bool
     ensures { result ≡ same_type (judged (schema_tree schema.now)) (unplaced_type (type_tree a.now)) (unplaced_type (type_tree b.now)) }
 {

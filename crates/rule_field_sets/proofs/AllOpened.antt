@@ -12,12 +12,12 @@ use Rattle.std.proofs.lemmas.Option.{slice_get_within, slice_get-map, slice_get-
 use Rattle.graphql_names.specs.Placed.{Place, Text}
 use Rattle.document_typed_selections.specs.TypedTree.{TypedSelection, TypedField, TypedSpread, TypedInline, TypedSet, typed_set, TypedSelections, no_typed, typed_then, typed_set_tree}
 use Rattle.document_typed_selections.specs.declared.selection.SelectionSet.{SelectionSet}
-use Rattle.document_walks.specs.Reached.{Member, members_in, members_of, members_along, selections_in, spread_names}
-use Rattle.document_walks.proofs.Finding.{not_in_nil}
-use Rattle.document_walks.proofs.Passing.{bare_in}
+use Rattle.document_typed_operations.specs.Reached.{Member, members_in, members_of, members_along, selections_in, spread_names}
+use Rattle.document_typed_operations.proofs.Finding.{not_in_nil}
+use Rattle.document_typed_operations.proofs.Passing.{bare_in}
 use Rattle.rule_document_definitions.proofs.Unplaced.{contains_map}
 use Rattle.rule_field_sets.specs.Fields.{fields_of}
-use Rattle.rule_document_ground.specs.Lent.{fields_lent}
+use Rattle.rule_reach.specs.Lent.{fields_lent}
 use Rattle.rule_field_sets.specs.declared.found.FoundField.{FoundField}
 use Rattle.rule_field_sets.specs.declared.found.FoundSet.{FoundSet}
 use Rattle.rule_field_sets.specs.declared.found.Finding.{Finding}

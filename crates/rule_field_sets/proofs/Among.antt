@@ -2,7 +2,7 @@
 use Rattle.std.proofs.Common.{◌≡◌, ◌↔◌, ℕ, List, IsTrue, Contains, slice_get, Some, sym, subst}
 use Rattle.rule_definitions.specs.Judged.{Judged}
 use Rattle.rule_document_definitions.specs.Merging.{IsAbstract, SameKey, SameShape, SameNameAndArguments}
-use Rattle.rule_document_ground.specs.Fields.{field_of}
+use Rattle.rule_reach.specs.Fields.{field_of}
 use Rattle.rule_field_sets.specs.declared.member.Member.{Member}
 use Rattle.rule_field_sets.specs.declared.member.SetNode.{SetNode}
 use Rattle.rule_field_sets.specs.declared.field_sets.FieldSets.{FieldSets}

@@ -8,8 +8,8 @@ use Rattle.rule_document_definitions.specs.Contents.{unplaced_content}
 use Rattle.rule_document_definitions.specs.ReadFields.{head_of}
 use Rattle.rule_document_definitions.proofs.ReadFacts.{selections_read}
 use Rattle.rule_document_definitions.proofs.Reflexive.{selection_refl}
-use Rattle.rule_document_ground.specs.Fields.{field_of}
-use Rattle.rule_document_ground.specs.declared.field_selection.FieldSelection.{FieldSelection}
+use Rattle.rule_reach.specs.Fields.{field_of}
+use Rattle.rule_reach.specs.declared.field_selection.FieldSelection.{FieldSelection}
 use Rattle.rule_field_sets.specs.declared.member.Member.{Member}
 use Rattle.rule_field_sets.specs.Tables.{ReadCall, Tables, MeansField, AreRight, AreJudged, TablesGrow, keys_in}
 use Rattle.rule_field_sets.specs.Numbered.{read_of, IsMember}

@@ -10,9 +10,9 @@ use Rattle.graphql_names.specs.NameValue.{NameValue}
 use Rattle.tree_directives.specs.DirectiveTree.{argument_tree, unplaced_argument}
 use Rattle.tree_literals.specs.TypeTree.{TypeTree}
 use Rattle.tree_literals.specs.declared.ty.«Type».{«Type»}
-use Rattle.schema_types.proofs.in_values.Decided.{through, pair_decides, nodes_decide}
-use Rattle.schema_types.proofs.in_values.DirectiveEquality.{argument_eq, argument_eq-Decides}
-use Rattle.schema_types.proofs.in_values.TypeEquality.{type_eq, type_eq-Decides}
+use Rattle.schema_types.proofs.in_operations.Decided.{through, pair_decides, nodes_decide}
+use Rattle.schema_types.proofs.in_operations.DirectiveEquality.{argument_eq, argument_eq-Decides}
+use Rattle.schema_types.proofs.in_operations.TypeEquality.{type_eq, type_eq-Decides}
 use Rattle.rule_field_sets.specs.contracts.numbers.CallPartialEq.TheImpl as call
 use Rattle.rule_field_sets.specs.declared.numbers.Call.{Call}
 use Rattle.rule_field_sets.specs.declared.numbers.FieldKey.{FieldKey}

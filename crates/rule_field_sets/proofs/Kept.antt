@@ -6,8 +6,8 @@ use Rattle.std.proofs.lemmas.List.{length_push}
 use Rattle.std.proofs.lemmas.Option.{slice_get_within}
 use Rattle.graphql_names.specs.Placed.{Place}
 use Rattle.document_typed_selections.specs.TypedTree.{TypedSet}
-use Rattle.document_walks.specs.Reached.{NamedSet, Fragments}
-use Rattle.document_walks.specs.WalkView.{fragments_tree}
+use Rattle.document_typed_operations.specs.Reached.{NamedSet, Fragments}
+use Rattle.document_typed_operations.specs.WalkView.{fragments_tree}
 use Rattle.rule_definitions.specs.Judged.{Judged}
 use Rattle.rule_field_sets.specs.declared.member.Member.{Member}
 use Rattle.rule_field_sets.specs.declared.member.SetNode.{SetNode}

@@ -8,11 +8,11 @@ use Rattle.graphql_names.specs.NameSyntax.{IsName}
 use Rattle.graphql_names.specs.NameValue.{NameValue}
 use Rattle.graphql_names.specs.Placed.{name_tree}
 use Rattle.graphql_names.specs.Node.{content}
-use Rattle.document_meaning.specs.MeantTree.{meant_of_set}
+use Rattle.spec_document.specs.MeantTree.{meant_of_set}
 use Rattle.document_typed_selections.specs.declared.selection.Field.{Field}
 use Rattle.rule_definitions.proofs.Lists.{mapped_some, slice_get-map}
 use Rattle.rule_document_definitions.specs.ReadFields.{ReadField, ReadSet, read_set, ReadFields, no_reads, read_then, listed, head_of, list_read}
-use Rattle.rule_document_ground.specs.declared.field_selection.FieldSelection.{FieldSelection}
+use Rattle.rule_reach.specs.declared.field_selection.FieldSelection.{FieldSelection}
 use Rattle.rule_field_sets.specs.declared.member.Member.{Member}
 use Rattle.rule_field_sets.specs.declared.member.SetNode.{SetNode}
 use Rattle.rule_field_sets.specs.declared.numbers.FieldKey.{FieldKey}

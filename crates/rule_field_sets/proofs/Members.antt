@@ -6,7 +6,7 @@ use Rattle.std.proofs.lemmas.List.{take_more, length_push, get_or_append_left}
 use Rattle.std.proofs.lemmas.List.Elements.{Contains-append_right}
 use Rattle.std.proofs.lemmas.Option.{slice_get_within, slice_get-get_or, get_or_from_slice_get}
 use Rattle.std.proofs.Math.Seq.{get_or-append_seam}
-use Rattle.document_walks.proofs.Finding.{not_in_nil, Contains-cons, Contains-first}
+use Rattle.document_typed_operations.proofs.Finding.{not_in_nil, Contains-cons, Contains-first}
 use Rattle.rule_cycle_search.specs.Paths.{HasNoRepeat}
 
 pub only : {X : Type 0} (x y : X) → Contains (x ∷ []) y → x ≡ y

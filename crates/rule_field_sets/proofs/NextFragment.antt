@@ -9,8 +9,8 @@ use Rattle.graphql_names.specs.Placed.{Place}
 use Rattle.graphql_names.specs.declared.node.Node.{Node}
 use Rattle.document_typed_selections.specs.TypedTree.{TypedSet, typed_set_tree}
 use Rattle.document_typed_operations.specs.declared.operation.Fragment.{Fragment}
-use Rattle.document_walks.specs.Reached.{NamedSet, Fragments}
-use Rattle.document_walks.specs.WalkView.{fragment_set, fragments_tree}
+use Rattle.document_typed_operations.specs.Reached.{NamedSet, Fragments}
+use Rattle.document_typed_operations.specs.WalkView.{fragment_set, fragments_tree}
 use Rattle.rule_definitions.proofs.Lists.{slice_get-map}
 use Rattle.rule_field_sets.specs.declared.field_sets.FieldSets.{FieldSets}
 use Rattle.rule_field_sets.specs.Nodes.{fragments_in, fragment_nodes}

@@ -2,7 +2,7 @@
 use Rattle.std.proofs.Common.{◌≡◌, ◌∙◌, [], ℕ, ◌<◌, List, length, slice_get, get_or, Some, sym, ap, subst, arith}
 use Rattle.std.proofs.lemmas.Option.{slice_get_within, slice_get-get_or}
 use Rattle.graphql_names.specs.Placed.{Place}
-use Rattle.document_walks.specs.Reached.{Fragments}
+use Rattle.document_typed_operations.specs.Reached.{Fragments}
 use Rattle.rule_definitions.specs.Judged.{Judged}
 use Rattle.rule_field_sets.specs.declared.member.SetNode.{SetNode}
 use Rattle.rule_field_sets.specs.Tables.{Tables, AreRight, AreJudged}

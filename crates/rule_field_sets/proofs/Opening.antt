@@ -18,15 +18,15 @@ use Rattle.document_typed_selections.specs.declared.selection.FragmentSpread.{Fr
 use Rattle.document_typed_selections.specs.declared.selection.InlineFragment.{InlineFragment}
 use Rattle.document_typed_selections.specs.declared.selection.SelectionSet.{SelectionSet}
 use Rattle.document_typed_selections.proofs.TypedTrees.{tree_here, typed_selection_tree_out, typed_tree_field, typed_tree_inline}
-use Rattle.document_walks.specs.Reached.{Member, members_in, spread_names}
-use Rattle.document_walks.specs.Left.{members_from, bare_selections}
-use Rattle.document_walks.specs.WalkView.{lent_member, members_on}
-use Rattle.document_walks.proofs.Passing.{members_in-list}
-use Rattle.document_walks.proofs.Standings.{set_members}
-use Rattle.rule_document_ground.specs.Fields.{field_of}
+use Rattle.document_typed_operations.specs.Reached.{Member, members_in, spread_names}
+use Rattle.document_typed_operations.specs.Left.{members_from, bare_selections}
+use Rattle.document_typed_operations.specs.WalkView.{lent_member, members_on}
+use Rattle.document_typed_operations.proofs.Passing.{members_in-list}
+use Rattle.document_typed_operations.proofs.Standings.{set_members}
+use Rattle.rule_reach.specs.Fields.{field_of}
 use Rattle.rule_field_sets.specs.Fields.{fields_of}
-use Rattle.rule_document_ground.specs.Lent.{field_lent, fields_lent}
-use Rattle.rule_document_ground.specs.declared.field_selection.FieldSelection.{FieldSelection}
+use Rattle.rule_reach.specs.Lent.{field_lent, fields_lent}
+use Rattle.rule_reach.specs.declared.field_selection.FieldSelection.{FieldSelection}
 use Rattle.rule_field_sets.specs.declared.found.FoundField.{FoundField}
 use Rattle.rule_field_sets.specs.Found.{set_of, texts_of}
 use Rattle.rule_field_sets.specs.Opened.{OpenState, left_of, typed_sets, below_of, place_for, own_set, sets_below, placed, all_placed, inside, with_more, passed, with_field, at_end}

@@ -10,16 +10,16 @@ use Rattle.graphql_names.specs.Node.{content}
 use Rattle.graphql_names.specs.Placed.{Place}
 use Rattle.document_typed_selections.specs.TypedTree.{TypedSet}
 use Rattle.document_typed_selections.specs.declared.selection.SelectionSet.{SelectionSet}
-use Rattle.document_meaning.specs.MeantTree.{meant_of_set}
-use Rattle.document_walks.specs.Reached.{Fragments}
+use Rattle.spec_document.specs.MeantTree.{meant_of_set}
+use Rattle.document_typed_operations.specs.Reached.{Fragments}
 use Rattle.rule_cycle_search.specs.Paths.{HasNoRepeat}
 use Rattle.rule_definitions.specs.Judged.{Judged}
-use Rattle.document_walks.proofs.Finding.{Contains-cons, Contains-first, not_in_nil}
+use Rattle.document_typed_operations.proofs.Finding.{Contains-cons, Contains-first, not_in_nil}
 use Rattle.rule_document_definitions.specs.Selected.{HasNone, StandingField}
 use Rattle.rule_document_definitions.specs.ReadFields.{set_of, field_read, list_read}
-use Rattle.rule_document_ground.specs.Fields.{field_of}
+use Rattle.rule_reach.specs.Fields.{field_of}
 use Rattle.rule_field_sets.specs.Fields.{fields_of}
-use Rattle.rule_document_ground.specs.declared.field_selection.FieldSelection.{FieldSelection}
+use Rattle.rule_reach.specs.declared.field_selection.FieldSelection.{FieldSelection}
 use Rattle.rule_field_sets.specs.declared.member.Member.{Member}
 use Rattle.rule_field_sets.specs.declared.member.SetNode.{SetNode}
 use Rattle.rule_field_sets.specs.Tables.{Tables, MeansField, MeansSet, IsSetNumber, TablesGrow}

@@ -12,9 +12,9 @@ use Rattle.std.proofs.lemmas.Map.Views.{Contains-from_any, list_any-from_Contain
 use Rattle.indexmap.specs.IndexSet.{insert_key}
 use Rattle.graphql_names.specs.NameValue.{NameValue}
 use Rattle.graphql_names.specs.Placed.{Place}
-use Rattle.document_walks.specs.Reached.{NamedSet, Fragments, fragment_named}
-use Rattle.document_walks.specs.Left.{note}
-use Rattle.document_walks.proofs.Finding.{not_in_nil, found_at, missing, position-map}
+use Rattle.document_typed_operations.specs.Reached.{NamedSet, Fragments, fragment_named}
+use Rattle.document_typed_operations.specs.Left.{note}
+use Rattle.document_typed_operations.proofs.Finding.{not_in_nil, found_at, missing, position-map}
 use Rattle.rule_field_sets.specs.Found.{texts_of, IsPlaceOf, ArePlaces}
 use Rattle.rule_field_sets.proofs.Members.{only, in_last, taken_more, none_twice, apart_more}
 

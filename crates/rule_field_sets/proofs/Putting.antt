@@ -7,13 +7,13 @@ use Rattle.std.proofs.lemmas.List.{length_push, length-map}
 use Rattle.std.proofs.lemmas.Option.{slice_get_within}
 use Rattle.graphql_names.specs.Placed.{Place}
 use Rattle.document_typed_selections.specs.TypedTree.{TypedSet, typed_set_tree}
-use Rattle.document_meaning.specs.MeantTree.{meant_of_set}
-use Rattle.document_walks.specs.Reached.{Fragments, members_in, selections_in, spread_names}
+use Rattle.spec_document.specs.MeantTree.{meant_of_set}
+use Rattle.document_typed_operations.specs.Reached.{Fragments, members_in, selections_in, spread_names}
 use Rattle.rule_definitions.proofs.Lists.{slice_get-map}
 use Rattle.rule_document_definitions.specs.Selected.{HasNone}
 use Rattle.rule_document_definitions.specs.Written.{spreads_written}
 use Rattle.rule_field_sets.specs.Fields.{fields_of}
-use Rattle.rule_document_ground.specs.Lent.{fields_lent}
+use Rattle.rule_reach.specs.Lent.{fields_lent}
 use Rattle.rule_field_sets.specs.declared.found.FoundField.{FoundField}
 use Rattle.rule_field_sets.specs.declared.found.FoundSet.{FoundSet}
 use Rattle.rule_field_sets.specs.declared.member.Member.{Member}

@@ -6,16 +6,16 @@ use Rattle.std.proofs.lemmas.List.{map-append}
 use Rattle.graphql_names.specs.Placed.{Text}
 use Rattle.document_typed_selections.specs.TypedTree.{TypedSelection, TypedField, TypedSpread, TypedInline, TypedSet, typed_set, TypedSelections, no_typed, typed_then, typed_set_tree}
 use Rattle.document_typed_selections.specs.declared.selection.SelectionSet.{SelectionSet}
-use Rattle.document_walks.specs.Reached.{Member, members_of, members_in, members_along, selections_of, selections_in, selections_along, spread_names}
-use Rattle.rule_document_definitions.specs.in_document_meaning.MeantTree.{meant, meant_of_set, meant_of_all}
+use Rattle.document_typed_operations.specs.Reached.{Member, members_of, members_in, members_along, selections_of, selections_in, selections_along, spread_names}
+use Rattle.rule_document_definitions.specs.in_spec_document.MeantTree.{meant, meant_of_set, meant_of_all}
 use Rattle.rule_document_definitions.specs.Selected.{HasNone}
 use Rattle.rule_document_definitions.specs.Written.{Written, written_at, written_in, written_along, spread_written, spreads_written}
 use Rattle.rule_document_definitions.proofs.FieldsWritten.{field_written, fields_written}
 use Rattle.rule_document_definitions.specs.ReadFields.{listed, fields_read, field_read, set_read, list_read}
 use Rattle.rule_document_definitions.proofs.ReadFacts.{flat_map-append, read_written, listed_read, nothing_read_of}
 use Rattle.rule_field_sets.specs.Fields.{fields_of}
-use Rattle.rule_document_ground.specs.Lent.{field_lent, fields_lent}
-use Rattle.rule_document_ground.specs.declared.field_selection.FieldSelection.{FieldSelection}
+use Rattle.rule_reach.specs.Lent.{field_lent, fields_lent}
+use Rattle.rule_reach.specs.declared.field_selection.FieldSelection.{FieldSelection}
 use Rattle.rule_field_sets.specs.Tables.{Tables, MeansField, MeansSet, IsSetNumber, ReadsAs}
 use Rattle.rule_field_sets.specs.Numbered.{read_of, meant_of}
 

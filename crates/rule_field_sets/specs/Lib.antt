@@ -7,5 +7,5 @@ pub mod Opened
 pub mod Nodes
 pub mod Read
 pub mod Added
-pub use Rattle.rule_document_ground.specs as in_ground
+pub use Rattle.rule_reach.specs as in_reach
 pub use Rattle.graphql_schema.specs as in_schema

@@ -12,11 +12,11 @@ use Rattle.tree_directives.specs.DirectiveTree.{argument_tree, unplaced_argument
 use Rattle.document_typed_selections.specs.TypedTree.{typed_set_tree}
 use Rattle.document_typed_selections.specs.declared.selection.Field.{Field}
 use Rattle.document_typed_selections.specs.declared.selection.SelectionSet.{SelectionSet}
-use Rattle.rule_document_definitions.specs.in_document_meaning.MeantTree.{MeantSet, meant_of_set}
+use Rattle.rule_document_definitions.specs.in_spec_document.MeantTree.{MeantSet, meant_of_set}
 use Rattle.rule_definitions.specs.Judged.{Judged}
 use Rattle.rule_document_definitions.specs.ReadFields.{ReadHead, ReadField, ReadSet, head_of, field_read, list_read}
-use Rattle.rule_document_ground.specs.Fields.{field_of}
-use Rattle.rule_document_ground.specs.declared.field_selection.FieldSelection.{FieldSelection}
+use Rattle.rule_reach.specs.Fields.{field_of}
+use Rattle.rule_reach.specs.declared.field_selection.FieldSelection.{FieldSelection}
 use Rattle.rule_field_sets.specs.Kinds.{is_abstract}
 use Rattle.rule_field_sets.specs.Tables.{ReadCall, PartTables, SetParts, Tables, MeansField}
 use Rattle.rule_field_sets.specs.declared.member.Member.{Member}
@@ -71,7 +71,7 @@ firsts_of es = map (λ e. (e.0, read_of e.1.first)) es
 abbrev pub first_sets_of : List (SetKey × Bor SelectionSet) → List (SetParts × ReadSet)
 first_sets_of es = map (λ e. (set_parts e.0, read_list e.1.now)) es
 
--- the newest node that has a field of each number
+-- for each number, the newest node that has a field of that number
 abbrev pub nodes_in : List (FieldKey × KnownField) → List ℕ
 nodes_in es = map (λ e. e.1.node) es
 
@@ -93,7 +93,7 @@ same_field_key a b = nat_eq a.key b.key && (nat_eq a.parent b.parent && (nat_eq 
 abbrev pub same_set_key : SetKey → SetKey → Bool
 same_set_key a b = pointwise nat_eq a.fields.items b.fields.items && pointwise (λ m n. pointwise nat_eq m.now.text n.now.text) a.spreads.items b.spreads.items
 
--- what is known of the type of this name, or else what the schema says
+-- whether the type of this name is abstract: what the table has of it, or else what the schema says
 abbrev pub kind_known : Judged → List (Bor NameValue × Bool) → List ℕ → Bool
 kind_known s es n = unwrap_or (lookup (λ k. pointwise nat_eq n k.now.text) es) (is_abstract s n)
 
@@ -105,27 +105,27 @@ first_known es k x = unwrap_or (option_map (λ v. v.first) (lookup (same_field_k
 abbrev pub first_listed : List (SetKey × Bor SelectionSet) → SetKey → SelectionSet → SelectionSet
 first_listed es k s = unwrap_or (option_map (λ v. v.now) (lookup (same_set_key k) es)) s
 
--- the node of what is known, if it is known
+-- there is a known field, and this is its newest node
 abbrev pub node_is : Option KnownField → ℕ → Bool
 node_is known node = option_map_or (λ v. nat_eq v.node node) known false
 
 -- ---- what is told of a field
 
--- these are the numbers of its parts
+-- these are the numbers of the field's parts
 pub record ArePartNumbers (t : PartTables) (n : PartNumbers) (h : ReadHead) : Type 0 where
   pub key : slice_get t.keys n.key ≡ Some h.key
   pub parent : slice_get t.parents n.parent ≡ Some (h.parent, n.is_shared)
   pub call : slice_get t.calls n.call ≡ Some (h.name, h.arguments)
   pub ty : slice_get t.types n.ty ≡ Some h.ty
 
--- it is this field, with its number and those of its parts, and this node below it
+-- the member is this field, with its number and those of its parts, and this node of its own set
 pub record IsMember (t : Tables) (x : FieldSelection) (node : Option ℕ) (m : Member) : Type 0 where
   pub selection : m.selection ≡ x
   pub number : MeansField t m.number (read_of m.selection)
   pub parts : ArePartNumbers t.parts (record { key = m.key; parent = m.parent; is_shared = m.is_shared; call = m.call; ty = m.ty }) (head_of (read_of m.selection))
   pub below : m.below ≡ node
 
--- the node is noted at this number, and nothing else changes; whether it was there before is told
+-- the node is noted at this number, and nothing else changes; `was_there` tells whether it was noted there before
 pub record NotesNode (old : List ℕ) (n node : ℕ) (was_there : Bool) (new : List ℕ) : Type 0 where
   pub noted : slice_get new n ≡ Some node
   pub others : (m : ℕ) → (m ≡ n → ⊥) → slice_get new m ≡ slice_get old m

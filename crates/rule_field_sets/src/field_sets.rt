@@ -3,7 +3,7 @@ ghost use Rattle.std.specs.Prelude.{◌≡◌, ◌<◌, ◌≤◌, ◌+◌, ◌+
 ghost use Rattle.rule_field_sets.specs.Numbered.{tables_of};
 ghost use Rattle.graphql_names.specs.Placed.{Place};
 ghost use Rattle.document_typed_selections.specs.TypedTree.{TypedSet, typed_set_tree};
-ghost use Rattle.document_walks.specs.WalkView.{fragments_tree};
+ghost use Rattle.document_typed_operations.specs.WalkView.{fragments_tree};
 ghost use Rattle.rule_field_sets.specs.Found.{set_of, set_at};
 ghost use Rattle.rule_field_sets.specs.Nodes.{AreSets, SetsGrow, IsNodeOf, set_nodes, fragment_nodes, HasAllStarts};
 ghost use Rattle.rule_field_sets.specs.Added.{OnlyNumbers, NodesGrow, IsFoundBelow, AreReadyBelow, IsReady, AreAllFound, HasAdded, selections_in_order, PassesField, PassesFields, IsFresh, IsSetBelow, node_at, with_new, AddsNode, IsNextFragment};
@@ -19,20 +19,20 @@ use std::alloc::{AllocError, Global};
 /// The fields of a node that is being added.
 #[derive(Drop)]
 pub(crate) struct NodeFields<'doc> {
-    /// Its fields, each number once.
+    /// The fields of the node, each number once.
     members: Vec<Member<'doc>>,
-    /// The numbers of all its fields, in the order of the text.
+    /// The numbers of all fields of the set, in the order of the text.
     numbers: Vec<usize>,
 }
 
-/// The sets of a document that have numbers, as nodes: a set is a node for each place where it is written. Sets within a set come
-/// before it.
+/// The sets of a document that have numbers, as nodes: a set has a node for each place where it is written. The nodes of
+/// sets within a set come before it.
 pub struct FieldSets<'doc> {
     alloc: Global,
     schema: &'doc Schema,
     fragments: &'doc FragmentMap,
     numbers: Numbers<'doc>,
-    /// How many nodes were begun. One that memory did not suffice for is none of the nodes.
+    /// How many nodes were begun. A node for which memory was refused counts as begun, but is not among the nodes.
     begun: usize,
     nodes: Vec<SetNode<'doc>>,
     /// The nodes of the fragments, in the order of the document. There are none before the first set is added.
@@ -53,7 +53,7 @@ impl Drop for FieldSets<'_> {
     }
 }
 
-/// The count of nodes that were begun, with one more. More than can be counted is as if memory did not suffice.
+/// The number of nodes that were begun, plus one. If that is no `usize`, it fails as if memory were refused.
 fn one_more(begun: usize) -> Result<usize, AllocError>
     ensures { IfOk result (λ more. more ≡ begun + 1) }
 {
@@ -63,7 +63,7 @@ fn one_more(begun: usize) -> Result<usize, AllocError>
     }
 }
 
-/// The node of a set within one that was found, by its place among those that were found. The first of these becomes the last node.
+/// The node of a set within one that was found, by its index among the found sets. The first of these becomes the last node.
 fn node_below(below: Option<usize>, last: usize) -> Option<usize>
     requires { MatchOption below (Unit {0}) (λ place. place ≤ last) }
     ensures { result ≡ node_at last below }
@@ -74,7 +74,7 @@ fn node_below(below: Option<usize>, last: usize) -> Option<usize>
     }
 }
 
-/// Adds a member, unless its number is there.
+/// Adds a member, unless its number is there already.
 fn push_new<'doc>(
     members: &mut Vec<Member<'doc>>,
     member: Member<'doc>,
@@ -90,7 +90,7 @@ fn push_new<'doc>(
 }
 
 impl<'doc> NodeFields<'doc> {
-    /// Adds a field, which is a member unless its number is there.
+    /// Adds a field; it becomes a member too unless its number is there already.
     fn add(&mut self, member: Member<'doc>, is_repeated: bool) -> Result<(), AllocError>
         ensures numbers { OnOk result (self.new.numbers.items ≡ self.old.numbers.items ++ member.entry.number ∷ []) }
         ensures members { OnOk result (self.new.members.items ≡ with_new is_repeated member.entry self.old.members.items) }
@@ -149,14 +149,14 @@ impl<'doc> FieldSets<'doc> {
         &self.nodes[node]
     }
 
-    /// The node at a place, if there is one.
+    /// The node at an index, if there is one.
     pub fn get(&self, node: usize) -> Option<&SetNode<'doc>>
         ensures { option_map (λ v. v.now) result ≡ slice_get (set_nodes self.now) node }
     {
         self.nodes.get(node)
     }
 
-    /// The node of the fragment at a place in the document, if that has one.
+    /// The node of the fragment at an index in the document, if it has one.
     pub fn fragment(&self, fragment: usize) -> Option<usize>
         ensures { result ≡ slice_get (fragment_nodes self.now) fragment }
     {
@@ -166,7 +166,7 @@ impl<'doc> FieldSets<'doc> {
         }
     }
 
-    /// How many numbers fields have, and how many sets.
+    /// How many different numbers fields have, and how many sets have.
     pub fn counts(&self) -> (usize, usize)
         ensures fields { result.0 ≡ length (tables_of self.now.numbers).fields }
         ensures sets { result.1 ≡ length (tables_of self.now.numbers).sets }
@@ -174,7 +174,7 @@ impl<'doc> FieldSets<'doc> {
         self.numbers.counts()
     }
 
-    /// The node of a fragment, by its place in the document.
+    /// The node of a fragment, by its index in the document.
     pub fn start(&self, fragment: usize) -> usize
         requires { fragment < length (fragment_nodes self.now) }
         ensures { slice_get (fragment_nodes self.now) fragment ≡ Some result }
@@ -234,7 +234,7 @@ impl<'doc> FieldSets<'doc> {
         Ok(())
     }
 
-    /// The fields of a set that was found, for a node of which none has a field yet.
+    /// The fields of a found set, for a node in which no field was met yet.
     fn fields_of(
         &mut self,
         found: &[FoundField<'doc>],
@@ -255,7 +255,7 @@ impl<'doc> FieldSets<'doc> {
         Ok(fields)
     }
 
-    /// Adds the node of a set that was found. Those of sets within it are there.
+    /// Adds the node of a set that was found. The nodes of sets within it are there already.
     fn add_node(&mut self, found: FoundSet<'doc>, last: usize) -> Result<(), AllocError>
         requires sets { AreSets self.old }
         requires ready { IsReady self.old.nodes.items last found }
@@ -311,7 +311,7 @@ impl<'doc> FieldSets<'doc> {
         Ok(last)
     }
 
-    /// Adds the nodes of the next fragment, of which this is the set.
+    /// Adds the nodes of the next fragment, whose set this is.
     fn add_fragment(&mut self, set: &'doc SelectionSet) -> Result<(), AllocError>
         requires sets { AreSets self.old }
         requires fragment { IsNextFragment self.old (typed_set_tree set.now) }
@@ -338,7 +338,8 @@ impl<'doc> FieldSets<'doc> {
         Ok(())
     }
 
-    /// Adds the nodes of a set and of all sets within it, and gives its own. At the first call the nodes of all fragments are added too.
+    /// Adds the nodes of a set and of all sets within it, and returns its own. The first call adds the nodes of all
+    /// fragments too.
     pub fn add_set(&mut self, set: &'doc SelectionSet) -> Result<usize, AllocError>
         requires sets { AreSets self.old }
         ensures sets { AreSets self.new }

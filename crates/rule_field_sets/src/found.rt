@@ -2,9 +2,9 @@
 ghost use Rattle.std.specs.Prelude.{◌≡◌, ◌++◌, [], map, length, false, IfOk, OnOk};
 ghost use Rattle.graphql_names.specs.Placed.{name_tree};
 ghost use Rattle.document_typed_selections.specs.TypedTree.{typed_selection_tree, typed_set_tree};
-ghost use Rattle.document_walks.specs.Reached.{members_in};
-ghost use Rattle.document_walks.specs.Left.{note};
-ghost use Rattle.document_walks.specs.WalkView.{fragments_tree};
+ghost use Rattle.document_typed_operations.specs.Reached.{members_in};
+ghost use Rattle.document_typed_operations.specs.Left.{note};
+ghost use Rattle.document_typed_operations.specs.WalkView.{fragments_tree};
 ghost use Rattle.rule_field_sets.specs.Found.{AreFound, ArePlaces, texts_of};
 ghost use Rattle.rule_field_sets.specs.Opened.{left_of, typed_sets, place_for, own_set, state_of, passed, with_set, begun, with_field, GoesOn};
 
@@ -12,11 +12,11 @@ use document_typed_operations::FragmentMap;
 use document_typed_selections::{Field, Selection, SelectionSet};
 use graphql_names::{Name, Node};
 use indexmap::IndexSet;
-use rule_document_ground::FieldSelection;
+use rule_reach::FieldSelection;
 use std::alloc::{AllocError, Global};
 use tree_literals::NamedType;
 
-/// A field of a set that was found, and the place of its own set among these, unless that has no selections.
+/// A field of a set that was found, and the index of its own set among the found sets, unless that has no selections.
 #[derive(Clone, Copy)]
 pub(crate) struct FoundField<'doc> {
     pub(crate) selection: FieldSelection<'doc>,
@@ -36,11 +36,11 @@ pub(crate) struct FoundSet<'doc> {
 struct Finding<'doc> {
     /// The set and the sets of fields within it, in the order in which they are found: each before those within it.
     sets: Vec<&'doc SelectionSet>,
-    /// The selections of the set that is being opened that are left, the next one last.
+    /// The selections still to be visited in the set that is being opened, the next one last.
     left: Vec<(&'doc NamedType, &'doc Selection)>,
 }
 
-/// The selections of a set come next.
+/// Makes the selections of a set the next ones.
 fn push_selections<'doc>(
     set: &'doc SelectionSet,
     left: &mut Vec<(&'doc NamedType, &'doc Selection)>,
@@ -53,7 +53,7 @@ fn push_selections<'doc>(
     Ok(())
 }
 
-/// The place of a field's set, which is to be opened, unless it has no selections.
+/// Adds a field's set to the sets that are to be opened, unless it has no selections, and returns its index.
 fn place_below<'doc>(
     set: &'doc SelectionSet,
     sets: &mut Vec<&'doc SelectionSet>,
@@ -86,7 +86,7 @@ impl<'doc> Finding<'doc> {
         Ok(())
     }
 
-    /// Passes a selection: adds a field, notes a spread, goes on within an inline fragment.
+    /// Visits a selection: adds a field, notes a spread, or enters an inline fragment.
     fn pass(
         &mut self,
         ty: &'doc NamedType,
@@ -107,7 +107,7 @@ impl<'doc> Finding<'doc> {
         }
     }
 
-    /// Passes the selections of a set and of its inline fragments, in the order of the text.
+    /// Visits the selections of a set and of its inline fragments, in the order of the text.
     fn pass_set(
         &mut self,
         set: &'doc SelectionSet,
@@ -122,7 +122,7 @@ impl<'doc> Finding<'doc> {
         Ok(())
     }
 
-    /// Opens a set: what is written in it and in its inline fragments.
+    /// Opens a set: finds what is written in it and in its inline fragments.
     fn open(&mut self, alloc: Global, set: &'doc SelectionSet) -> Result<FoundSet<'doc>, AllocError>
         ensures { IfOk result (λ found. state_of self.new found ≡ with_set (typed_set_tree set.now) (begun (typed_set_tree set.now) self.old)) }
     {
@@ -135,7 +135,7 @@ impl<'doc> Finding<'doc> {
         Ok(found)
     }
 
-    /// Opens the sets that are to be opened, and those that are found on the way.
+    /// Opens the sets that are to be opened, and those that are found meanwhile.
     fn open_all(&mut self, alloc: Global, found: &mut Vec<FoundSet<'doc>>) -> Result<(), AllocError>
         requires { left_of self.old.left.items ≡ [] }
         ensures { OnOk result (GoesOn self.old found.old.items found.new.items) }
@@ -165,7 +165,7 @@ pub(crate) fn found_sets<'doc>(
     Ok(found)
 }
 
-/// Notes the place of the fragment of this name, if the document has one.
+/// Notes the index of the fragment of this name, if the document has one.
 fn note_place(
     fragments: &FragmentMap,
     name: &Name,
@@ -179,7 +179,7 @@ fn note_place(
     Ok(())
 }
 
-/// The place of each of these fragments in the document, each once. Those that it does not have are left out.
+/// The index of each of these fragments in the document, each once. Those that are not in the document are left out.
 pub(crate) fn places_of(
     alloc: Global,
     fragments: &FragmentMap,

@@ -1,14 +1,14 @@
-//! The selection sets of a document, each with a number, and the fields in them: what merging reads of them (section 5.3.2). Equal
-//! numbers are equal contents, and the other way round, so that nothing that is nested is compared once numbers are there.
+//! The selection sets of a document, each with a number, and the fields in them: what merging reads of them (section 5.3.2).
+//! Equal numbers mean equal contents, and conversely, so that nothing that is nested is compared once numbers are there.
 //!
-//! For the layers above: `FieldSets` has the sets of a document as nodes (`AreSets` of `specs/Nodes.antt`): a node has the number of
-//! its set, the fields of the set with their numbers, each number once, and the places of the fragments that the set spreads; the
-//! set of a field is an earlier node. `add_set` adds nodes and changes none (`SetsGrow`). Equal numbers of members and of nodes are
-//! equal contents (`proofs/Among.antt`).
+//! For the layers above: `FieldSets` has the sets of a document as nodes (`AreSets` of `specs/Nodes.antt`): a node has the
+//! number of its set, the fields of the set with their numbers, each number once, and the indices of the fragments that the
+//! set spreads; the set of a field is an earlier node. `add_set` adds nodes and changes none (`SetsGrow`). Equal numbers of
+//! members and of nodes mean equal contents (`proofs/Among.antt`).
 //!
 //! Within the crate `found_sets` gives a set and all sets of fields within it, each before those within it (`AreFound` of
-//! `specs/Found.antt`), `places_of` the places of fragments by their names (`ArePlaces` there). `Numbers` gives fields and sets their
-//! numbers, bottom up (`AreRight` of `specs/Tables.antt`).
+//! `specs/Found.antt`), `places_of` the indices of fragments by their names (`ArePlaces` there). `Numbers` gives fields and
+//! sets their numbers, bottom up (`AreRight` of `specs/Tables.antt`).
 //!
 //! Begin with `specs/Nodes.antt` and `specs/Tables.antt`, then `found.rt`, `numbers.rt` and `field_sets.rt`.
 #![tactic(auto)]
@@ -24,4 +24,4 @@ pub use member::{Member, SetNode};
 
 // Of the crates below, for those above.
 pub use graphql_schema::Schema;
-pub use rule_document_ground::{FieldSelection, push_breach};
+pub use rule_reach::{FieldSelection, push_breach};

@@ -1,13 +1,13 @@
 //! Fields in numbered sets.
 
 use document_typed_selections::SelectionSet;
-use rule_document_ground::FieldSelection;
+use rule_reach::FieldSelection;
 
 /// A field of a set.
 #[derive(Clone, Copy)]
 pub struct Member<'doc> {
     pub selection: FieldSelection<'doc>,
-    /// The number of what merging reads of it.
+    /// The number of what merging reads of the field.
     pub number: usize,
     /// The number of its response key.
     pub key: usize,
@@ -30,7 +30,7 @@ pub struct SetNode<'doc> {
     pub number: usize,
     /// Its fields and those of its inline fragments, each number once.
     pub members: Vec<Member<'doc>>,
-    /// The fragments that these spread, by their places in the document, each once.
+    /// The fragments that these spread, by index in the document, each once.
     pub spreads: Vec<usize>,
 }
 

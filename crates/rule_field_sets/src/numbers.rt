@@ -12,19 +12,19 @@ use document_typed_selections::{Field, SelectionSet};
 use graphql_names::{Name, Node};
 use graphql_schema::Schema;
 use indexmap::{IndexMap, IndexSet};
-use rule_document_ground::FieldSelection;
+use rule_reach::FieldSelection;
 use std::alloc::{AllocError, Global};
 use tree_directives::Argument;
 use tree_literals::{NamedType, Type};
 
-/// What a field asks for: its name and what is given for its arguments.
+/// What a field selects: its name and arguments.
 #[derive(Clone, Copy, PartialEq, Eq, Hash)]
 struct Call<'doc> {
     name: &'doc Name,
     arguments: &'doc Vec<Node<Argument>>,
 }
 
-/// What merging reads of a field, by the numbers of its parts: of its response key, the type that it is selected on, its name and
+/// What merging reads of a field, by numbers: those of its response key, the type that it is selected on, its name and
 /// arguments, its type, and its own set, unless that has no selections.
 #[derive(Clone, Copy, PartialEq, Eq, Hash)]
 struct FieldKey {
@@ -52,7 +52,7 @@ impl Drop for SetKey<'_> {
     }
 }
 
-/// A content of fields that has a number: the first field that has it, and the newest node that has such a field.
+/// A content of fields that has a number: the first field with it, and the newest node that has such a field.
 #[derive(Clone, Copy)]
 struct KnownField<'doc> {
     first: FieldSelection<'doc>,
@@ -69,8 +69,8 @@ struct PartNumbers {
     ty: usize,
 }
 
-/// The parts of fields that have numbers: each number is a place here. Of a type that fields are selected on it is kept whether it
-/// is an interface or a union.
+/// The parts of fields that have numbers: each number is an index here. For each type that fields are selected on it is kept
+/// whether it is an interface or a union.
 struct Parts<'doc> {
     keys: IndexSet<&'doc Name>,
     parents: IndexMap<&'doc NamedType, bool>,
@@ -89,7 +89,7 @@ impl Drop for Parts<'_> {
     }
 }
 
-/// The contents that have numbers: each number is a place here. The first set that has a content is kept with it.
+/// The contents that have numbers: each number is an index here. The first set that has a content is kept with it.
 pub(crate) struct Numbers<'doc> {
     parts: Parts<'doc>,
     fields: IndexMap<FieldKey, KnownField<'doc>>,
@@ -118,7 +118,7 @@ fn name_number<'doc>(
     Ok(number)
 }
 
-/// The number of what a field asks for.
+/// The number of a field's name and arguments.
 fn call_number<'doc>(
     calls: &mut IndexSet<Call<'doc>>,
     field: &'doc Field,
@@ -143,7 +143,7 @@ fn type_number<'doc>(types: &mut IndexSet<&'doc Type>, ty: &'doc Type) -> Result
     Ok(number)
 }
 
-/// Whether a type that fields are selected on is an interface or a union. The schema is asked where it has no number yet.
+/// Whether a type that fields are selected on is an interface or a union. The schema is asked if the type has no number yet.
 fn known_kind<'doc>(
     schema: &Schema,
     parents: &IndexMap<&'doc NamedType, bool>,
@@ -200,7 +200,7 @@ impl<'doc> Parts<'doc> {
     }
 }
 
-/// The first field of these numbers, if there is one, or else this one.
+/// The first field with this key, if there is one, or else this one.
 fn first_field<'doc>(
     fields: &IndexMap<FieldKey, KnownField<'doc>>,
     field: FieldKey,
@@ -240,7 +240,7 @@ fn field_number<'doc>(
     Ok((number, has_field(known, node)))
 }
 
-/// The first set of these numbers, if there is one, or else this one.
+/// The first set with this key, if there is one, or else this one.
 fn first_set<'doc>(
     sets: &IndexMap<SetKey<'doc>, &'doc SelectionSet>,
     key: &SetKey<'doc>,
@@ -254,7 +254,7 @@ fn first_set<'doc>(
     }
 }
 
-/// The number of a set of which these are the fields and spreads.
+/// The number of a set with these fields and spreads.
 fn list_number<'doc>(
     sets: &mut IndexMap<SetKey<'doc>, &'doc SelectionSet>,
     key: SetKey<'doc>,
@@ -269,7 +269,7 @@ fn list_number<'doc>(
 }
 
 impl<'doc> Numbers<'doc> {
-    /// None.
+    /// No numbers.
     pub(crate) fn new(alloc: Global) -> Numbers<'doc>
         ensures right { AreRight (tables_of result) }
         ensures judged { (s : Judged) → AreJudged s (tables_of result).parts.parents }
@@ -287,7 +287,7 @@ impl<'doc> Numbers<'doc> {
         }
     }
 
-    /// How many numbers fields have, and how many sets.
+    /// How many different numbers fields have, and how many sets have.
     pub(crate) fn counts(&self) -> (usize, usize)
         ensures fields { result.0 ≡ length (tables_of self.now).fields }
         ensures sets { result.1 ≡ length (tables_of self.now).sets }
@@ -295,8 +295,8 @@ impl<'doc> Numbers<'doc> {
         (self.fields.len(), self.sets.len())
     }
 
-    /// A field of a node as a member, and whether the node has it already. The number of its own set and the node of that are
-    /// given, unless that has no selections.
+    /// A field of a node as a member, and whether the node has it already. `set` and `below` are the number and the node of
+    /// its own set, unless that has no selections.
     pub(crate) fn add_field(
         &mut self,
         schema: &Schema,
@@ -344,7 +344,7 @@ impl<'doc> Numbers<'doc> {
         Ok((member, is_repeated))
     }
 
-    /// The number of a set, of which these are the fields and spreads in the order of the text, with those of its inline fragments.
+    /// The number of a set with these fields and spreads, in the order of the text, those of its inline fragments included.
     pub(crate) fn set_number(
         &mut self,
         fields: Vec<usize>,

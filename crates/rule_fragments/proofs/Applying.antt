@@ -14,9 +14,9 @@ use Rattle.document_typed_selections.specs.TypedParts.{typed_spread_node}
 use Rattle.document_typed_selections.specs.declared.selection.FragmentSpread.{FragmentSpread}
 use Rattle.document_typed_operations.specs.TypedDocument.{typed_fragment_tree}
 use Rattle.document_typed_operations.specs.declared.operation.Fragment.{Fragment}
-use Rattle.document_meaning.specs.MeantTree.{MeantFragment, meant}
-use Rattle.rule_document_ground.specs.Reach.{meant_fragments}
-use Rattle.rule_document_ground.proofs.Found.{meant_node, found_under}
+use Rattle.spec_document.specs.MeantTree.{MeantFragment, meant}
+use Rattle.rule_reach.specs.Reach.{meant_fragments}
+use Rattle.rule_reach.proofs.Found.{meant_node, found_under}
 use Rattle.rule_fragments.specs.Applied.{ApplicationTree, application_in}
 
 -- a spread of this name and of a fragment on this condition

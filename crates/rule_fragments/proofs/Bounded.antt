@@ -3,11 +3,11 @@ use Rattle.std.proofs.Common.{◌≡◌, ℕ, suc, true, List, ◌∷◌, ◌++�
 use Rattle.std.specs.List.{flat_map, list_any}
 use Rattle.std.proofs.lemmas.List.Elements.{Contains-append_left, Contains-append_right}
 use Rattle.rule_cycle_search.proofs.Lists.{not_in_nil, Contains-cons, Contains-first, given_in, index_found, index_given}
-use Rattle.document_meaning.specs.MeantTree.{MeantSet, meant_set, MeantSelections, no_meant, meant_then, MeantOperation, MeantFragment, MeantDocument}
+use Rattle.spec_document.specs.MeantTree.{MeantSet, meant_set, MeantSelections, no_meant, meant_then, MeantOperation, MeantFragment, MeantDocument}
 use Rattle.rule_document_definitions.specs.Selected.{Position, InOperation, InFragment, SelectionAt, Standing, stand, standing_in, all_in, all_from, all_below, all_selections, operation_name, operations, fragments, own, held}
 use Rattle.rule_document_definitions.specs.Limits.{path_bound, entered, PassesPathBound}
 use Rattle.rule_fragments.specs.Nested.{NestsTooDeep, deeper_in, some_nests}
-use Rattle.rule_always.proofs.Staying.{or_cases, or_left, or_right, any_index, index_any}
+use Rattle.rule_selection_queries.proofs.Staying.{or_cases, or_left, or_right, any_index, index_any}
 use Rattle.rule_fragments.proofs.Nested.{Path, path_in, path_deeper, way_enters, enters_none, none_again}
 
 module _ {P : Type 0} where

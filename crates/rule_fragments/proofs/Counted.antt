@@ -5,10 +5,10 @@ use Rattle.std.specs.Borrow.{Bor}
 use Rattle.graphql_names.specs.NameValue.{NameValue}
 use Rattle.graphql_names.specs.Placed.{Place}
 use Rattle.document_typed_selections.specs.declared.selection.Selection.{Selection}
-use Rattle.document_meaning.specs.MeantTree.{MeantOperation, MeantDocument}
-use Rattle.document_walks.specs.Reached.{Member}
-use Rattle.document_walks.specs.WalkView.{lent_member}
-use Rattle.rule_always.specs.Lent.{lent}
+use Rattle.spec_document.specs.MeantTree.{MeantOperation, MeantDocument}
+use Rattle.document_typed_operations.specs.Reached.{Member}
+use Rattle.document_typed_operations.specs.WalkView.{lent_member}
+use Rattle.rule_selection_queries.specs.Lent.{lent}
 use Rattle.rule_fragments.specs.ListedBreaches.{fields_in, field_count}
 use Rattle.rule_fragments.specs.Rooted.{AreRoots, HasSeveralFields}
 use Rattle.rule_fragments.specs.Used.{AreUnderOwnNames}

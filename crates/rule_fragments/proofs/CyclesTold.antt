@@ -9,10 +9,10 @@ use Rattle.std.proofs.lemmas.Option.{same_Some, slice_get_within}
 use Rattle.graphql_names.specs.Placed.{Place}
 use Rattle.graphql_names.specs.declared.node.Node.{Node}
 use Rattle.document_typed_selections.specs.declared.selection.FragmentSpread.{FragmentSpread}
-use Rattle.document_meaning.specs.MeantTree.{MeantFragment, MeantDocument}
+use Rattle.spec_document.specs.MeantTree.{MeantFragment, MeantDocument}
 use Rattle.rule_definitions.specs.Diagnostics.{RecursiveFragmentDefinition}
 use Rattle.rule_definitions.specs.Faults.{wrong}
-use Rattle.rule_definitions.specs.Told.{PlacedFault}
+use Rattle.rule_definitions.specs.PlacedFaults.{PlacedFault}
 use Rattle.rule_definitions.proofs.Lists.{index_given}
 use Rattle.rule_cycle_search.specs.Paths.{Leads, IsWay, HasNoRepeat}
 use Rattle.rule_cycle_search.specs.declared.found.Found.{Found}
@@ -31,7 +31,7 @@ use Rattle.rule_fragments.specs.Used.{AreUnderOwnNames, IsUsed, AreUsed}
 use Rattle.rule_fragments.specs.SpreadNumbers.{Spread, references_at}
 use Rattle.rule_fragments.specs.SpreadGraph.{AreSpreadReferences}
 use Rattle.rule_fragments.specs.CycleFaults.{spread_trace, IsRecursiveFault, IsDeepFault, Tells, used_at, TellsRecursive, TellsDeep}
-use Rattle.rule_fragments.specs.Told.{FragmentCyclesFail, Answers, TellsFragmentCycles}
+use Rattle.rule_fragments.specs.FragmentCycles.{FragmentCyclesFail, Answers, TellsFragmentCycles}
 use Rattle.rule_cycles.specs.declared.references.References.{References}
 use Rattle.rule_fragments.proofs.Named.{any_among, fragment_there, used_there, own_number, used_by_name}
 use Rattle.rule_fragments.proofs.SpreadBridge.{name_at, number_at, said, spread_sound, spread_full, spread_defined, spread_one}

@@ -11,18 +11,18 @@ use Rattle.tree_literals.specs.ValueQueries.{variable_name, boolean_value}
 use Rattle.tree_directives.specs.DirectiveTree.{DirectiveTree, Directives}
 use Rattle.tree_directives.specs.declared.operation_type.OperationType.TheVariants as operation
 use Rattle.rule_cycle_search.proofs.Lists.{not_in_nil, found_in, given_in, index_found, index_given}
-use Rattle.document_meaning.specs.MeantTree.{MeantSelection, MeantField, MeantSpread, MeantInline, MeantOperation, MeantDocument}
-use Rattle.fault_document_data.specs.DocumentBreaches.{DeferOnRootMutationOrSubscriptionField, DeferInSubscriptionMustBeConditional}
+use Rattle.spec_document.specs.MeantTree.{MeantSelection, MeantField, MeantSpread, MeantInline, MeantOperation, MeantDocument}
+use Rattle.fault_document_errors.specs.DocumentBreaches.{DeferOnRootMutationOrSubscriptionField, DeferInSubscriptionMustBeConditional}
 use Rattle.rule_definitions.specs.Words.{AtSomeIndex, Present}
 use Rattle.rule_document_definitions.specs.DocumentFaults.{Broken, broken}
 use Rattle.rule_document_definitions.specs.Selected.{Position, Standing, field_there, selection_directives}
 use Rattle.rule_document_definitions.specs.DeferUses.{given_if, IsConditional}
 use Rattle.rule_document_definitions.specs.Defer.{DeferOnRootMutationOrSubscriptionFieldAt, DeferInSubscriptionMustBeConditionalAt, DeferBreaks}
-use Rattle.rule_always.specs.Stays.{is_directive}
+use Rattle.rule_selection_queries.specs.Stays.{is_directive}
 use Rattle.rule_fragments.specs.ListedBreaches.{deferred_at_root, fragment_deferred, is_condition, is_conditional, deferred_always, always_deferred}
 use Rattle.rule_fragments.specs.Rooted.{AreRoots}
-use Rattle.rule_always.specs.Always.{AreAlways}
-use Rattle.rule_always.proofs.Staying.{or_left, or_right, and_both, and_is, not_true}
+use Rattle.rule_selection_queries.specs.Always.{AreAlways}
+use Rattle.rule_selection_queries.proofs.Staying.{or_left, or_right, and_both, and_is, not_true}
 use Rattle.rule_fragments.proofs.Listing.{when_true, true_when, at_index, index_at, filtered, in_filter, mapped_told, told_mapped}
 
 -- ---- uses of @defer among directives

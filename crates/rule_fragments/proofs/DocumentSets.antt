@@ -14,15 +14,15 @@ use Rattle.document_typed_operations.specs.TypedDocument.{TypedOperation, TypedF
 use Rattle.document_typed_operations.specs.declared.operation.Operation.{Operation}
 use Rattle.document_typed_operations.specs.declared.operation.Fragment.{Fragment}
 use Rattle.document_typed_operations.specs.declared.document.ExecutableDocument.{ExecutableDocument}
-use Rattle.document_meaning.specs.MeantTree.{MeantSet, MeantOperation, MeantFragment, meant_of_set, meant_of_all}
-use Rattle.rule_always.specs.in_ground.in_typed_operations.DocumentView.{meant_by_operation, meant_by_fragment, document_meant}
+use Rattle.spec_document.specs.MeantTree.{MeantSet, MeantOperation, MeantFragment, meant_of_set, meant_of_all}
+use Rattle.rule_selection_queries.specs.in_reach.in_typed_operations.DocumentView.{meant_by_operation, meant_by_fragment, document_meant}
 use Rattle.rule_document_definitions.specs.Selected.{operations, fragments}
 use Rattle.rule_document_definitions.specs.Limits.{path_bound}
 use Rattle.rule_fragments.specs.Nested.{deeper_in, deeper_along, deeper_of, some_nests}
-use Rattle.rule_always.specs.Lent.{lent}
+use Rattle.rule_selection_queries.specs.Lent.{lent}
 use Rattle.rule_fragments.specs.Rooted.{operation_set, fragment_set, alone_so, alone_told}
 use Rattle.std.proofs.lemmas.List.{take_all}
-use Rattle.rule_always.proofs.Telling.{any_there}
+use Rattle.rule_selection_queries.proofs.Telling.{any_there}
 
 deeper_each : (b : ℕ) (ss : List Selection) → deeper_along b (meant_of_all (typed_selections typed_selection_tree ss)) ≡ list_any (λ s. deeper_of b (lent s)) ss
 deeper_each b [] = refl

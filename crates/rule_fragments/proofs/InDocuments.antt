@@ -2,7 +2,7 @@
 use Rattle.std.proofs.Common.{◌≡◌, ◌↔◌, inl, inr, ◌++◌, List, [], refl, Contains}
 use Rattle.std.proofs.lemmas.List.Elements.{Contains-append_left, Contains-append_right}
 use Rattle.graphql_names.specs.Placed.{Place}
-use Rattle.document_meaning.specs.MeantTree.{MeantDocument}
+use Rattle.spec_document.specs.MeantTree.{MeantDocument}
 use Rattle.rule_definitions.specs.Room.{◌⊕◌}
 use Rattle.rule_document_definitions.specs.Defer.{LabelsBreak}
 use Rattle.rule_document_definitions.specs.DocumentFaults.{Broken}

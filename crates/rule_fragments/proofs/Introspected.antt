@@ -10,13 +10,13 @@ use Rattle.graphql_names.specs.declared.node.Node.{Node}
 use Rattle.document_typed_selections.specs.TypedTree.{TypedSelection, TypedField, TypedSpread, TypedInline}
 use Rattle.document_typed_selections.specs.TypedParts.{typed_field_node, as_typed_field}
 use Rattle.document_typed_selections.specs.declared.selection.Field.{Field}
-use Rattle.document_meaning.specs.MeantTree.{MeantOperation, meant}
-use Rattle.fault_document_data.specs.DocumentBreaches.{SubscriptionUsesIntrospection}
+use Rattle.spec_document.specs.MeantTree.{MeantOperation, meant}
+use Rattle.fault_document_errors.specs.DocumentBreaches.{SubscriptionUsesIntrospection}
 use Rattle.rule_document_definitions.specs.DocumentFaults.{Broken, broken}
 use Rattle.rule_document_definitions.specs.Selected.{operation_name}
 use Rattle.rule_document_definitions.specs.RootFields.{meta_field_names}
 use Rattle.rule_fragments.specs.ListedBreaches.{fields_in, introspection}
-use Rattle.document_walks.proofs.Finding.{none_is_some}
+use Rattle.document_typed_operations.proofs.Finding.{none_is_some}
 
 abbrev of_field : MeantOperation Place → Option (TypedSelection Place) → List (Broken Place)
 of_field o None = []

@@ -20,10 +20,10 @@ use Rattle.tree_directives.specs.DirectiveTree.{DirectiveTree, Directives}
 use Rattle.tree_directives.specs.DirectiveQueries.{given_value}
 use Rattle.schema_components.specs.Lists.{each_place_after, each_place}
 use Rattle.schema_components.proofs.Places.{found_at, given_at, found_among, given_among}
-use Rattle.document_meaning.specs.MeantTree.{MeantSelection, MeantField, MeantSpread, MeantInline, MeantSet, meant_set, MeantSelections, no_meant, meant_then, MeantOperation, MeantFragment, MeantDocument}
+use Rattle.spec_document.specs.MeantTree.{MeantSelection, MeantField, MeantSpread, MeantInline, MeantSet, meant_set, MeantSelections, no_meant, meant_then, MeantOperation, MeantFragment, MeantDocument}
 use Rattle.document_typed_operations.specs.declared.document.ExecutableDocument.{ExecutableDocument}
-use Rattle.rule_always.specs.in_ground.in_typed_operations.DocumentView.{document_meant}
-use Rattle.fault_document_data.specs.DocumentBreaches.{DeferLabelMustNotBeVariable, DuplicateDeferLabel}
+use Rattle.rule_selection_queries.specs.in_reach.in_typed_operations.DocumentView.{document_meant}
+use Rattle.fault_document_errors.specs.DocumentBreaches.{DeferLabelMustNotBeVariable, DuplicateDeferLabel}
 use Rattle.rule_definitions.specs.Words.{Present, AtSomeIndex, FirstNamed, Repeats}
 use Rattle.rule_document_definitions.specs.DocumentFaults.{Broken, broken}
 use Rattle.rule_document_definitions.specs.Selected.{Position, InOperation, InFragment, SelectionAt, Standing, all_in, all_from, all_below, all_selections, operation_name, operations, fragments, selection_directives}
@@ -34,11 +34,11 @@ use Rattle.rule_definitions.proofs.Listing.{Lists, lists_same, lists_both, lists
 use Rattle.rule_definitions.specs.Room.{◌⊕◌}
 use Rattle.rule_definitions.proofs.Room.{room_both}
 use Rattle.rule_definitions.proofs.Adding.{places_more}
-use Rattle.rule_always.specs.Inside.{contents_along, contents_below}
+use Rattle.rule_selection_queries.specs.Inside.{contents_along, contents_below}
 use Rattle.rule_fragments.specs.Labels.{values_meant, label_of, labels_of, labels_in, text_label, string_label, variable_label, label_again, first_place, duplicate_label, label_breaks, AreFirstPlaces, NotesFirst, NotesLabel, told_again}
-use Rattle.rule_always.specs.Stays.{is_directive, all_stay}
+use Rattle.rule_selection_queries.specs.Stays.{is_directive, all_stay}
 use Rattle.rule_fragments.specs.Rooted.{operation_set, fragment_set, alone_told}
-use Rattle.rule_always.proofs.Sets.{flat_map-flat_map}
+use Rattle.rule_selection_queries.proofs.Sets.{flat_map-flat_map}
 use Rattle.rule_fragments.proofs.DocumentSets.{document_told}
 
 -- what is given of some elements, piece by piece

@@ -8,10 +8,10 @@ use Rattle.graphql_names.specs.Placed.{Place}
 use Rattle.graphql_names.specs.NameValue.{NameValue}
 use Rattle.document_typed_selections.specs.TypedTree.{typed_selection_tree}
 use Rattle.document_typed_selections.specs.declared.selection.Selection.{Selection}
-use Rattle.document_meaning.specs.MeantTree.{MeantSelection, meant}
-use Rattle.document_walks.specs.Reached.{Member}
-use Rattle.document_walks.specs.WalkView.{lent_member}
-use Rattle.rule_always.specs.Lent.{lent, lent_all}
+use Rattle.spec_document.specs.MeantTree.{MeantSelection, meant}
+use Rattle.document_typed_operations.specs.Reached.{Member}
+use Rattle.document_typed_operations.specs.WalkView.{lent_member}
+use Rattle.rule_selection_queries.specs.Lent.{lent, lent_all}
 
 abbrev pub members_lent : List (Member Place) → List (MeantSelection Place)
 members_lent es = map (λ e. meant e.1) es

@@ -33,4 +33,4 @@ pub mod Operations
 pub mod UnlessFull
 pub mod InDocuments
 pub use Rattle.rule_cycles.proofs.in_schema as in_schema
-pub use Rattle.rule_document_ground.proofs as in_ground
+pub use Rattle.rule_reach.proofs as in_reach

@@ -9,11 +9,11 @@ use Rattle.graphql_names.specs.declared.node.Node.{Node}
 use Rattle.document_typed_selections.specs.TypedTree.{TypedSelection, TypedField, TypedSpread, TypedInline}
 use Rattle.document_typed_selections.specs.TypedParts.{as_typed_spread, as_typed_inline}
 use Rattle.document_typed_operations.specs.declared.operation.Fragment.{Fragment}
-use Rattle.document_meaning.specs.MeantTree.{meant}
+use Rattle.spec_document.specs.MeantTree.{meant}
 use Rattle.schema_types.specs.Addresses.{under}
 use Rattle.rule_document_definitions.specs.Selected.{spread_name, inline_condition}
-use Rattle.rule_document_ground.specs.Reach.{meant_fragments}
-use Rattle.rule_document_ground.proofs.Found.{meant_node, found_under}
+use Rattle.rule_reach.specs.Reach.{meant_fragments}
+use Rattle.rule_reach.proofs.Found.{meant_node, found_under}
 
 module _ {P : Type 0} where
   pub no_spread : (t : TypedSelection P) → None ≡ as_typed_spread t → spread_name (meant t) ≡ None

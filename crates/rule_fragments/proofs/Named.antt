@@ -14,11 +14,11 @@ use Rattle.schema_components.specs.Names.{Entries, same_text}
 use Rattle.schema_types.specs.TypeView.{name_text}
 use Rattle.document_typed_operations.specs.TypedDocument.{TypedFragment, typed_fragment_tree}
 use Rattle.document_typed_operations.specs.declared.operation.Fragment.{Fragment}
-use Rattle.document_meaning.specs.MeantTree.{MeantFragment, MeantDocument}
-use Rattle.rule_document_ground.specs.in_typed_operations.DocumentView.{meant_by_fragment}
+use Rattle.spec_document.specs.MeantTree.{MeantFragment, MeantDocument}
+use Rattle.rule_reach.specs.in_typed_operations.DocumentView.{meant_by_fragment}
 use Rattle.rule_document_definitions.specs.Named.{FragmentsFoundByName}
 use Rattle.rule_document_definitions.specs.Selected.{fragments, fragment_named}
-use Rattle.rule_document_ground.specs.Reach.{meant_fragments}
+use Rattle.rule_reach.specs.Reach.{meant_fragments}
 use Rattle.rule_cycle_search.proofs.Lists.{not_in_nil, Contains-cons, Contains-first}
 use Rattle.rule_definitions.proofs.Lists.{index_found, index_given}
 use Rattle.rule_cycles.proofs.Entries.{under_at, under_given}

@@ -6,12 +6,12 @@ use Rattle.std.proofs.lemmas.Option.{same_Some}
 use Rattle.std.proofs.lemmas.List.Elements.{Contains-append_right}
 use Rattle.rule_cycle_search.specs.Paths.{IsWay, HasNoRepeat}
 use Rattle.rule_cycle_search.proofs.Lists.{not_in_nil, Contains-cons, Contains-first}
-use Rattle.document_meaning.specs.MeantTree.{MeantSelection, MeantField, MeantSpread, MeantInline, MeantSet, meant_set, MeantSelections, no_meant, meant_then, MeantDocument}
+use Rattle.spec_document.specs.MeantTree.{MeantSelection, MeantField, MeantSpread, MeantInline, MeantSet, meant_set, MeantSelections, no_meant, meant_then, MeantDocument}
 use Rattle.rule_definitions.specs.Words.{Present}
 use Rattle.rule_document_definitions.specs.Selected.{Position, SelectionAt, Standing, StandingField, field_there, in_inline, stand, standing_in, spread_name}
 use Rattle.rule_document_definitions.specs.Limits.{entered, Enters}
 use Rattle.rule_fragments.specs.Nested.{HasInside, deeper_in, deeper_along, deeper_of}
-use Rattle.rule_always.proofs.Staying.{or_cases, or_left, or_right}
+use Rattle.rule_selection_queries.proofs.Staying.{or_cases, or_left, or_right}
 
 module _ {P : Type 0} (d : MeantDocument P) where
   -- a path in one text from one of these

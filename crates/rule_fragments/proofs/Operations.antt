@@ -11,8 +11,8 @@ use Rattle.document_typed_operations.specs.OperationsByName.{operations_list}
 use Rattle.document_typed_operations.specs.TypedDocument.{TypedOperation, typed_operation_tree, typed_operations_tree, typed_document_tree}
 use Rattle.document_typed_operations.specs.declared.operation.Operation.{Operation}
 use Rattle.document_typed_operations.specs.declared.document.ExecutableDocument.{ExecutableDocument}
-use Rattle.document_meaning.specs.MeantTree.{MeantOperation}
-use Rattle.rule_always.specs.in_ground.in_typed_operations.DocumentView.{meant_by_operation, document_meant, operation_meant}
+use Rattle.spec_document.specs.MeantTree.{MeantOperation}
+use Rattle.rule_selection_queries.specs.in_reach.in_typed_operations.DocumentView.{meant_by_operation, document_meant, operation_meant}
 use Rattle.rule_definitions.proofs.Lists.{Contains-first}
 use Rattle.rule_document_definitions.specs.Selected.{operations}
 

@@ -4,12 +4,12 @@ use Rattle.std.specs.Prelude.{if◌then◌else◌}
 use Rattle.std.proofs.lemmas.List.{map-append}
 use Rattle.std.proofs.lemmas.List.Elements.{Contains-append_right, Contains-append_cases}
 use Rattle.rule_cycle_search.proofs.Lists.{not_in_nil, Contains-cons, Contains-first}
-use Rattle.document_meaning.specs.MeantTree.{MeantSelection, MeantField, MeantSpread, MeantInline, MeantSet, meant_set, MeantSelections, no_meant, meant_then}
+use Rattle.spec_document.specs.MeantTree.{MeantSelection, MeantField, MeantSpread, MeantInline, MeantSet, meant_set, MeantSelections, no_meant, meant_then}
 use Rattle.rule_document_definitions.specs.Selected.{Position, InOperation, InFragment, SelectionAt, Standing}
-use Rattle.rule_always.specs.Inside.{inside, inside_from, inside_below}
+use Rattle.rule_selection_queries.specs.Inside.{inside, inside_from, inside_below}
 use Rattle.rule_fragments.specs.Rooted.{Apart}
-use Rattle.rule_always.proofs.Mapped.{mapped_in}
-use Rattle.rule_always.proofs.Inside.{head, here}
+use Rattle.rule_selection_queries.proofs.Mapped.{mapped_in}
+use Rattle.rule_selection_queries.proofs.Inside.{head, here}
 
 -- ---- lists
 

@@ -6,10 +6,10 @@ use Rattle.std.proofs.lemmas.Slice.Eq.{bytes_eq-Decides}
 use Rattle.graphql_names.specs.Placed.{Placed}
 use Rattle.tree_directives.specs.DirectiveTree.{DirectiveTree, Directives}
 use Rattle.rule_cycle_search.proofs.Lists.{not_in_nil, Contains-cons, only, index_found, index_given}
-use Rattle.fault_document_data.specs.DocumentBreaches.{SubscriptionUsesConditionalSelection, DeferOnRootMutationOrSubscriptionField, DeferInSubscriptionMustBeConditional}
+use Rattle.fault_document_errors.specs.DocumentBreaches.{SubscriptionUsesConditionalSelection, DeferOnRootMutationOrSubscriptionField, DeferInSubscriptionMustBeConditional}
 use Rattle.rule_definitions.specs.Words.{AtSomeIndex, Present}
 use Rattle.rule_definitions.specs.Names.{directive_name}
-use Rattle.document_meaning.specs.MeantTree.{MeantSelection, MeantField, MeantSpread, MeantInline, MeantSet, meant_set, MeantSelections, no_meant, meant_then, MeantOperation, MeantFragment, MeantDocument}
+use Rattle.spec_document.specs.MeantTree.{MeantSelection, MeantField, MeantSpread, MeantInline, MeantSet, meant_set, MeantSelections, no_meant, meant_then, MeantOperation, MeantFragment, MeantDocument}
 use Rattle.rule_document_definitions.specs.DocumentFaults.{Broken, broken}
 use Rattle.rule_document_definitions.specs.Selected.{Position, InFragment, Standing, StandingField, stand, standing_in, field_there, in_inline, spread_name, selection_directives, fragment_named, field_name, own, held, operation_name}
 use Rattle.rule_document_definitions.specs.Reached.{Closed, first, next, InField, InFragmentOf, LeadsInto, AtRoot}
@@ -17,11 +17,11 @@ use Rattle.rule_document_definitions.specs.RootFields.{meta_field_names}
 use Rattle.rule_document_definitions.specs.Subscriptions.{SubscriptionUsesIntrospectionAt, SubscriptionUsesConditionalSelectionAt}
 use Rattle.rule_document_definitions.specs.DeferUses.{MayBeLeftOut, ReachedAlways, IsConditional}
 use Rattle.rule_document_definitions.specs.Defer.{DeferBreaks}
-use Rattle.rule_always.specs.Stays.{is_directive}
+use Rattle.rule_selection_queries.specs.Stays.{is_directive}
 use Rattle.rule_fragments.specs.Thinned.{listed, set_listed, has_noted, is_quiet, are_quiet, all_quiet, StandIn}
-use Rattle.rule_always.proofs.Staying.{and_both, or_left, or_right, not_true, index_any, so_named}
+use Rattle.rule_selection_queries.proofs.Staying.{and_both, or_left, or_right, not_true, index_any, so_named}
 use Rattle.rule_fragments.proofs.Listing.{filtered}
-use Rattle.rule_always.proofs.Mapped.{mapped_in, in_mapped}
+use Rattle.rule_selection_queries.proofs.Mapped.{mapped_in, in_mapped}
 
 pub name_back : (n : List ℕ) (names : List (List ℕ)) → Contains names n → list_any (bytes_eq n) names ≡ true
 name_back n [] c = not_in_nil n c

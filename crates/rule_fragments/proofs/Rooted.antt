@@ -12,21 +12,21 @@ use Rattle.std.proofs.lemmas.Map.Keys.{IsDistinct-head, IsDistinct-tail}
 use Rattle.rule_cycle_search.proofs.Lists.{not_in_nil, Contains-cons, only, found_in, given_in, Contains-first, mapped_some}
 use Rattle.document_typed_selections.specs.TypedTree.{TypedSelection, TypedField, TypedSpread, TypedInline, TypedSet, typed_set, TypedSelections, no_typed, typed_then}
 use Rattle.document_typed_operations.specs.TypedDocument.{TypedDocumentTree}
-use Rattle.document_meaning.specs.MeantTree.{MeantSelection, MeantSet, MeantOperation, MeantFragment, MeantDocument, meant, meant_of_set, meant_of_all}
-use Rattle.rule_always.specs.in_ground.in_typed_operations.DocumentView.{meant_document}
-use Rattle.document_walks.specs.Reached.{NamedSet, Member, document_fragments, selections_of, selections_in, selections_along, members_in, spread_names, ReachedFragment, by_start, by_fragment, IsMemberWalk, fragment_named as named_set_of}
-use Rattle.document_walks.proofs.Passing.{bare_in}
+use Rattle.spec_document.specs.MeantTree.{MeantSelection, MeantSet, MeantOperation, MeantFragment, MeantDocument, meant, meant_of_set, meant_of_all}
+use Rattle.rule_selection_queries.specs.in_reach.in_typed_operations.DocumentView.{meant_document}
+use Rattle.document_typed_operations.specs.Reached.{NamedSet, Member, document_fragments, selections_of, selections_in, selections_along, members_in, spread_names, ReachedFragment, by_start, by_fragment, IsMemberWalk, fragment_named as named_set_of}
+use Rattle.document_typed_operations.proofs.Passing.{bare_in}
 use Rattle.rule_document_definitions.specs.Selected.{Position, InOperation, InFragment, Standing, spread_name, operation_name, fragment_named, own}
 use Rattle.rule_document_definitions.specs.Reached.{first, next, AtRoot}
 use Rattle.rule_fragments.specs.Used.{AreUnderOwnNames}
-use Rattle.rule_always.specs.Inside.{contents_in, contents_along, contents_of, inside, inside_fragment, located, ReachesBy}
-use Rattle.rule_always.specs.Stays.{all_stay}
+use Rattle.rule_selection_queries.specs.Inside.{contents_in, contents_along, contents_of, inside, inside_fragment, located, ReachesBy}
+use Rattle.rule_selection_queries.specs.Stays.{all_stay}
 use Rattle.rule_fragments.specs.Rooted.{Apart, AreRoots}
-use Rattle.rule_always.proofs.Inside.{contents_inside}
-use Rattle.rule_always.proofs.Mapped.{mapped_in, in_mapped}
+use Rattle.rule_selection_queries.proofs.Inside.{contents_inside}
+use Rattle.rule_selection_queries.proofs.Mapped.{mapped_in, in_mapped}
 use Rattle.rule_fragments.proofs.Positions.{apart_append, apart_in, top, top_in}
-use Rattle.rule_always.proofs.Lookups.{found_name, find_passes, find_in, walk_finds, rules_find, is_name}
-use Rattle.rule_always.proofs.Closing.{own_reached, held_reached, located_cases, located_reached, reached_located}
+use Rattle.rule_selection_queries.proofs.Lookups.{found_name, find_passes, find_in, walk_finds, rules_find, is_name}
+use Rattle.rule_selection_queries.proofs.Closing.{own_reached, held_reached, located_cases, located_reached, reached_located}
 
 -- a fragment that stands under its own name
 pub own_name : {P : Type 0} (d : MeantDocument P) (n : List ℕ) (f : MeantFragment P) → AreUnderOwnNames d → fragment_named d n ≡ Some f → n ≡ f.name.it

@@ -8,7 +8,7 @@ use Rattle.document_typed_selections.specs.TypedTree.{typed_selections, typed_se
 use Rattle.document_typed_selections.specs.declared.selection.Selection.{Selection}
 use Rattle.document_typed_selections.specs.declared.selection.SelectionSet.{SelectionSet}
 use Rattle.document_typed_selections.proofs.TypedTrees.{typed_set_tree_out}
-use Rattle.document_meaning.specs.MeantTree.{MeantFragment, meant, meant_of_set, meant_of_all}
+use Rattle.spec_document.specs.MeantTree.{MeantFragment, meant, meant_of_set, meant_of_all}
 use Rattle.rule_cycles.specs.Labels.{Labelled}
 use Rattle.rule_fragments.specs.SpreadNumbers.{Spread, references_in, references_along, references_of}
 

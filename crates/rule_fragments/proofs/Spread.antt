@@ -10,22 +10,22 @@ use Rattle.graphql_names.specs.Placed.{Place, Text}
 use Rattle.schema_components.specs.Names.{Entries}
 use Rattle.schema_types.specs.SchemaTree.{SchemaTree}
 use Rattle.schema_types.specs.Addresses.{TypeAt, under}
-use Rattle.document_meaning.specs.MeantTree.{MeantSelection, MeantField, MeantSpread, MeantInline, MeantOperation, MeantFragment, MeantDocument}
+use Rattle.spec_document.specs.MeantTree.{MeantSelection, MeantField, MeantSpread, MeantInline, MeantOperation, MeantFragment, MeantDocument}
 use Rattle.rule_definitions.specs.Diagnostics.{InvalidFragmentSpread}
 use Rattle.rule_definitions.specs.Faults.{wrong}
 use Rattle.rule_definitions.specs.Judged.{judged}
-use Rattle.rule_definitions.specs.Told.{PlacedFault}
+use Rattle.rule_definitions.specs.PlacedFaults.{PlacedFault}
 use Rattle.rule_definitions.specs.Words.{Present}
 use Rattle.rule_document_definitions.specs.Selected.{spread_name, inline_condition, selection_place, own}
 use Rattle.rule_document_definitions.specs.PossibleTypes.{MayApply}
 use Rattle.rule_document_definitions.specs.Fragments.{InvalidFragmentTargetAt, InvalidFragmentSpreadAt}
-use Rattle.rule_document_definitions.specs.Told.{places_in, place_or_built_in}
+use Rattle.rule_document_definitions.specs.PlacedDocumentFaults.{places_in, place_or_built_in}
 use Rattle.rule_definitions.proofs.Listing.{present_known}
 use Rattle.rule_definitions.proofs.Listing.{Lists, lists_same, lists_nothing, lists_unless, lists_index}
 use Rattle.rule_definitions.specs.Room.{◌⊕◌}
 use Rattle.rule_definitions.proofs.Adding.{Gains, gains_list, gains_both, gains_nothing}
-use Rattle.rule_document_ground.specs.Reach.{Member, IsReach}
-use Rattle.rule_document_ground.proofs.AtReaches.{at_reached}
+use Rattle.rule_reach.specs.Reach.{Member, IsReach}
+use Rattle.rule_reach.proofs.AtReaches.{at_reached}
 use Rattle.rule_fragments.specs.Held.{may_apply}
 use Rattle.rule_fragments.specs.Possible.{ObjectsOfTypes, ArePossible}
 use Rattle.rule_fragments.specs.Applied.{ApplicationTree, stands_on_its_type, all_stand_on_their_types, spread_told, application_fault, invalid_fragment_spread}

@@ -9,8 +9,8 @@ use Rattle.tree_directives.specs.DirectiveTree.{DirectiveTree}
 use Rattle.tree_directives.specs.declared.operation_type.OperationType.TheVariants as operation
 use Rattle.rule_cycle_search.specs.Paths.{HasNoRepeat}
 use Rattle.rule_cycle_search.proofs.Lists.{not_in_nil, Contains-cons, Contains-first, only, is_only, found_in, given_in, index_given}
-use Rattle.document_meaning.specs.MeantTree.{MeantSelection, MeantField, MeantSpread, MeantInline, MeantOperation, MeantDocument}
-use Rattle.fault_document_data.specs.DocumentBreaches.{SubscriptionUsesMultipleFields, SubscriptionUsesIntrospection, SubscriptionUsesConditionalSelection}
+use Rattle.spec_document.specs.MeantTree.{MeantSelection, MeantField, MeantSpread, MeantInline, MeantOperation, MeantDocument}
+use Rattle.fault_document_errors.specs.DocumentBreaches.{SubscriptionUsesMultipleFields, SubscriptionUsesIntrospection, SubscriptionUsesConditionalSelection}
 use Rattle.rule_definitions.specs.Names.{directive_name}
 use Rattle.rule_document_definitions.specs.DocumentFaults.{Broken, broken}
 use Rattle.rule_document_definitions.specs.Selected.{Position, Standing, StandingField, as_field, field_there, field_name, operation_name, selection_directives}
@@ -18,13 +18,13 @@ use Rattle.rule_document_definitions.specs.Reached.{AtRoot}
 use Rattle.rule_document_definitions.specs.RootFields.{meta_field_names, IsRootField, AreRootFields}
 use Rattle.rule_document_definitions.specs.Subscriptions.{SubscriptionUsesMultipleFieldsAt, SubscriptionUsesIntrospectionAt, SubscriptionUsesConditionalSelectionAt, SubscriptionBreaks}
 use Rattle.rule_fragments.specs.Used.{AreUnderOwnNames}
-use Rattle.rule_always.specs.Stays.{is_directive}
+use Rattle.rule_selection_queries.specs.Stays.{is_directive}
 use Rattle.rule_fragments.specs.ListedBreaches.{fields_in, field_count, introspection, conditional, at_root}
 use Rattle.rule_fragments.specs.Rooted.{Apart, AreRoots, HasSeveralFields}
 use Rattle.rule_fragments.specs.Thinned.{StandIn}
-use Rattle.rule_always.proofs.Mapped.{in_mapped}
-use Rattle.rule_always.proofs.Staying.{or_cases, or_left, or_right, named_so, so_named}
-use Rattle.rule_always.proofs.Found.{name_here}
+use Rattle.rule_selection_queries.proofs.Mapped.{in_mapped}
+use Rattle.rule_selection_queries.proofs.Staying.{or_cases, or_left, or_right, named_so, so_named}
+use Rattle.rule_selection_queries.proofs.Found.{name_here}
 use Rattle.rule_fragments.proofs.Quiet.{name_back, roots_less, roots_more}
 use Rattle.rule_fragments.proofs.Listing.{when_true, true_when, at_index, index_at, option_in, in_option, mapped_told, told_mapped}
 

@@ -12,12 +12,12 @@ use Rattle.schema_types.specs.Addresses.{under}
 use Rattle.document_typed_selections.specs.TypedTree.{TypedSelection}
 use Rattle.document_typed_selections.specs.TypedParts.{typed_inline_node, as_typed_inline}
 use Rattle.document_typed_selections.specs.declared.selection.InlineFragment.{InlineFragment}
-use Rattle.document_meaning.specs.MeantTree.{MeantSelection, MeantOperation, MeantFragment, MeantDocument, meant}
+use Rattle.spec_document.specs.MeantTree.{MeantSelection, MeantOperation, MeantFragment, MeantDocument, meant}
 use Rattle.fault_data.proofs.Judgings.{type_seen, type_look}
 use Rattle.rule_definitions.specs.Diagnostics.{InvalidFragmentTarget}
 use Rattle.rule_definitions.specs.Faults.{wrong}
 use Rattle.rule_definitions.specs.Judged.{judged}
-use Rattle.rule_definitions.specs.Told.{PlacedFault}
+use Rattle.rule_definitions.specs.PlacedFaults.{PlacedFault}
 use Rattle.rule_definitions.specs.Words.{Present}
 use Rattle.rule_document_definitions.specs.Selected.{selection_place, inline_condition, own}
 use Rattle.rule_document_definitions.specs.PossibleTypes.{IsNoCompositeType, IsNotComposite}
@@ -25,8 +25,8 @@ use Rattle.rule_document_definitions.specs.Fragments.{InvalidFragmentTargetAt}
 use Rattle.rule_definitions.proofs.Listing.{Lists, lists_same, lists_present, lists_when, lists_index}
 use Rattle.rule_definitions.specs.Room.{◌⊕◌}
 use Rattle.rule_definitions.proofs.Adding.{Gains, gains_list, gains_both}
-use Rattle.rule_document_ground.specs.Reach.{Member, IsReach}
-use Rattle.rule_document_ground.proofs.AtReaches.{at_reached, at_reached_fragment}
+use Rattle.rule_reach.specs.Reach.{Member, IsReach}
+use Rattle.rule_reach.proofs.AtReaches.{at_reached, at_reached_fragment}
 use Rattle.rule_fragments.specs.Listed.{is_no_composite, invalid_fragment_target, fragment_target, inline_target}
 use Rattle.rule_fragments.proofs.Members.{no_inline, the_inline}
 

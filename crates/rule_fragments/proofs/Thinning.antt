@@ -9,10 +9,10 @@ use Rattle.document_typed_selections.specs.TypedParts.{and_then, set_and_if}
 use Rattle.document_typed_selections.specs.declared.selection.Selection.{Selection}
 use Rattle.document_typed_selections.specs.declared.selection.SelectionSet.{SelectionSet}
 use Rattle.document_typed_selections.proofs.TypedTrees.{typed_set_tree_out}
-use Rattle.document_meaning.specs.MeantTree.{MeantSelection, MeantSet, meant, meant_of_set, meant_of_all}
-use Rattle.rule_always.specs.Lent.{lent, lent_all}
+use Rattle.spec_document.specs.MeantTree.{MeantSelection, MeantSet, meant, meant_of_set, meant_of_all}
+use Rattle.rule_selection_queries.specs.Lent.{lent, lent_all}
 use Rattle.rule_fragments.specs.Thinned.{listed, set_listed, is_quiet, are_quiet, all_quiet, Leaves}
-use Rattle.rule_always.proofs.Telling.{front_more, any_there}
+use Rattle.rule_selection_queries.proofs.Telling.{front_more, any_there}
 use Rattle.rule_fragments.proofs.Listing.{filtered, in_filter}
 
 -- ---- whether all selections of a set are quiet

@@ -10,16 +10,16 @@ use Rattle.schema_types.specs.Addresses.{under}
 use Rattle.document_typed_selections.specs.TypedTree.{TypedSelection}
 use Rattle.document_typed_selections.specs.TypedParts.{typed_spread_node, as_typed_spread}
 use Rattle.document_typed_selections.specs.declared.selection.FragmentSpread.{FragmentSpread}
-use Rattle.document_meaning.specs.MeantTree.{MeantSelection, MeantOperation, MeantFragment, MeantDocument, meant}
+use Rattle.spec_document.specs.MeantTree.{MeantSelection, MeantOperation, MeantFragment, MeantDocument, meant}
 use Rattle.rule_definitions.specs.Diagnostics.{UndefinedFragment}
 use Rattle.rule_definitions.specs.Faults.{wrong}
-use Rattle.rule_definitions.specs.Told.{PlacedFault}
+use Rattle.rule_definitions.specs.PlacedFaults.{PlacedFault}
 use Rattle.rule_definitions.specs.Words.{Present}
 use Rattle.rule_document_definitions.specs.Selected.{selection_place, spread_name, fragment_named, own}
 use Rattle.rule_document_definitions.specs.Fragments.{UndefinedFragmentAt}
 use Rattle.rule_definitions.proofs.Listing.{Lists, lists_same, lists_present, lists_absent, lists_index}
-use Rattle.rule_document_ground.specs.Reach.{Member, IsReach}
-use Rattle.rule_document_ground.proofs.AtReaches.{at_reached}
+use Rattle.rule_reach.specs.Reach.{Member, IsReach}
+use Rattle.rule_reach.proofs.AtReaches.{at_reached}
 use Rattle.rule_fragments.specs.Listed.{undefined_fragment}
 use Rattle.rule_fragments.proofs.Members.{no_spread, the_spread}
 

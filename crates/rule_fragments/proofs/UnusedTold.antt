@@ -10,14 +10,14 @@ use Rattle.graphql_names.specs.declared.node.Node.{Node}
 use Rattle.schema_components.specs.Names.{same_text}
 use Rattle.schema_types.specs.TypeView.{name_text}
 use Rattle.document_typed_operations.specs.declared.operation.Fragment.{Fragment}
-use Rattle.document_meaning.specs.MeantTree.{MeantFragment, MeantDocument}
+use Rattle.spec_document.specs.MeantTree.{MeantFragment, MeantDocument}
 use Rattle.rule_definitions.specs.Diagnostics.{UnusedFragment}
 use Rattle.rule_definitions.specs.Faults.{wrong}
-use Rattle.rule_definitions.specs.Told.{PlacedFault}
+use Rattle.rule_definitions.specs.PlacedFaults.{PlacedFault}
 use Rattle.rule_definitions.proofs.Lists.{found_in, given_in, not_in_nil, only, is_only}
 use Rattle.rule_document_definitions.specs.Selected.{fragments}
 use Rattle.rule_document_definitions.specs.Fragments.{UnusedFragmentAt}
-use Rattle.rule_document_ground.specs.Reach.{meant_fragments}
+use Rattle.rule_reach.specs.Reach.{meant_fragments}
 use Rattle.rule_cycles.specs.Numbers.{each_value}
 use Rattle.rule_fragments.specs.Used.{AreUnderOwnNames, IsUsed, AreUsed}
 use Rattle.rule_fragments.specs.Unused.{unused_fragment}

@@ -1,4 +1,4 @@
--- Conditions with which inline fragments may apply, under the names of the types on which these stand.
+-- Conditions with which inline fragments may apply, under the names of the types of the sets that they are in.
 use Rattle.std.specs.Prelude.{ℕ, List, Contains, Option}
 use Rattle.indexmap.specs.IndexMap.{IndexMap}
 use Rattle.indexmap.specs.IndexSet.{IndexSet}
@@ -9,10 +9,10 @@ use Rattle.rule_fragments.specs.Held.{noted_in}
 use Rattle.rule_fragments.specs.Possible.{ObjectsOfTypes, ArePossibleIfFound}
 
 module _ (s : Judged) where
-  -- each condition that a map has under the name of a type is on no type without fields, and may apply there
+  -- each condition that a map has under the name of a type is no type without fields, and a fragment on it may apply there
   abbrev pub MayApplyWhereNoted : {S T : Type 0} → IndexMap NameValue (IndexSet NameValue S) T → Type 0
   MayApplyWhereNoted m = (t c : List ℕ) → Contains (noted_in m.entries t) c → (IsNotComposite s c → ⊥) × MayApply s t c
 
-  -- and the possible types are right, if they are found
+  -- the same; and the possible types are right, if they are found
   abbrev pub KnowsWhatApplies : {S T : Type 0} → Option ObjectsOfTypes → IndexMap NameValue (IndexSet NameValue S) T → Type 0
   KnowsWhatApplies possible m = ArePossibleIfFound s possible × MayApplyWhereNoted m

@@ -1,4 +1,4 @@
--- Private: leads to `ArePossible` and `MayApply`. Possible types as they are held, and what is kept of two types.
+-- Private: leads to `ArePossible` and `MayApply`. Possible types as they are held, and what is remembered of pairs of types.
 use Rattle.std.specs.Prelude.{◌≡◌, ◌↔◌, ◌⊎◌, ℕ, nat_eq, Bool, ◌||◌, ◌&&◌, List, [], map, slice_get, Option, IfSome, Contains, bytes_eq}
 use Rattle.std.specs.List.{list_any}
 use Rattle.std.specs.Map.{lookup}
@@ -10,7 +10,7 @@ use Rattle.schema_components.specs.Lists.{is_among}
 use Rattle.schema_types.specs.TypeView.{name_text}
 use Rattle.rule_fragments.specs.Possible.{ObjectsOfTypes, objects_of}
 
--- the names of a set, if there is one
+-- the names of a set; no names if there is no set
 abbrev pub texts_of : {S : Type 0} → Option (IndexSet NameValue S) → List (List ℕ)
 texts_of o = option_map_or (λ names. map name_text names.keys) o []
 
@@ -22,7 +22,7 @@ noted_in entries n = texts_of (lookup (λ a. bytes_eq n a.text) entries)
 abbrev pub possible_in : {S : Type 0} → List (NameValue × IndexSet NameValue S) → ObjectsOfTypes
 possible_in entries = map (λ e. (e.0.text, map name_text e.1.keys)) entries
 
--- of the type at that index
+-- the object types of the type at that index
 abbrev pub objects_at : ObjectsOfTypes → ℕ → List (List ℕ)
 objects_at p i = option_map_or (λ e. e.1) (slice_get p i) []
 
@@ -30,18 +30,18 @@ objects_at p i = option_map_or (λ e. e.1) (slice_get p i) []
 abbrev pub share_one : List (List ℕ) → List (List ℕ) → Bool
 share_one xs ys = list_any (λ x. is_among x ys) xs
 
--- a fragment on the second may stand where the first is
+-- a fragment on `condition` may apply in a set on `parent`: the types are the same, or have an object type in common
 abbrev pub may_apply : ObjectsOfTypes → List ℕ → List ℕ → Bool
 may_apply p parent condition = bytes_eq condition parent || share_one (objects_of p parent) (objects_of p condition)
 
--- the types at these indices have an object in common; what a map has of two types by their indices says whether they have
+-- the types at these indices have an object type in common; whatever the map has under two indices says whether their types have one
 abbrev pub share_at : ObjectsOfTypes → ℕ → ℕ → Bool
 share_at p i j = share_one (objects_at p i) (objects_at p j)
 
 abbrev pub AreCommon : {S : Type 0} → ObjectsOfTypes → IndexMap (ℕ × ℕ) Bool S → Type 0
 AreCommon p common = (k : ℕ × ℕ) → IfSome (get (λ x y. nat_eq x.0 y.0 && nat_eq x.1 y.1) common k) (λ b. b ≡ share_at p k.0 k.1)
 
--- what was noted stays, and each of these names is noted under the first of its pair; no more
+-- exactly the old notes and these are in the new map: of each pair, the second name is noted under the first
 abbrev pub AddsEntries : {S : Type 0} → List (NameValue × IndexSet NameValue S) → List (NameValue × IndexSet NameValue S) → List (List ℕ × List ℕ) → Type 0
 AddsEntries old new notes = (n object : List ℕ) → Contains (noted_in new n) object ↔ (Contains (noted_in old n) object ⊎ Contains notes (n, object))
 

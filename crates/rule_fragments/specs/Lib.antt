@@ -11,7 +11,7 @@ pub mod SpreadNumbers
 pub mod SpreadViews
 pub mod SpreadGraph
 pub mod CycleFaults
-pub mod Told
+pub mod FragmentCycles
 pub mod Broken
 pub mod ListedBreaches
 pub mod Nested
@@ -20,6 +20,6 @@ pub mod Thinned
 pub mod Labels
 pub mod UnlessFull
 pub mod Documents
-pub use Rattle.rule_document_ground.specs.in_typed_operations as in_typed_operations
+pub use Rattle.rule_reach.specs.in_typed_operations as in_typed_operations
 pub use Rattle.rule_cycles.specs.in_schema as in_schema
-pub use Rattle.rule_document_ground.specs as in_ground
+pub use Rattle.rule_reach.specs as in_reach

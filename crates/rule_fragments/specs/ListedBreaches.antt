@@ -7,18 +7,18 @@ use Rattle.graphql_names.specs.Placed.{Placed}
 use Rattle.tree_literals.specs.ValueTree.{ValueTree}
 use Rattle.tree_literals.specs.ValueQueries.{variable_name, boolean_value}
 use Rattle.tree_directives.specs.DirectiveTree.{DirectiveTree}
-use Rattle.document_meaning.specs.MeantTree.{MeantSelection, MeantField, MeantSpread, MeantInline, MeantOperation}
-use Rattle.fault_document_data.specs.DocumentBreaches.{SubscriptionUsesIntrospection, SubscriptionUsesConditionalSelection, DeferOnRootMutationOrSubscriptionField, DeferInSubscriptionMustBeConditional}
+use Rattle.spec_document.specs.MeantTree.{MeantSelection, MeantField, MeantSpread, MeantInline, MeantOperation}
+use Rattle.fault_document_errors.specs.DocumentBreaches.{SubscriptionUsesIntrospection, SubscriptionUsesConditionalSelection, DeferOnRootMutationOrSubscriptionField, DeferInSubscriptionMustBeConditional}
 use Rattle.rule_document_definitions.specs.DocumentFaults.{Broken, broken}
 use Rattle.rule_document_definitions.specs.Selected.{operation_name, selection_directives}
 use Rattle.rule_document_definitions.specs.RootFields.{meta_field_names}
 use Rattle.rule_document_definitions.specs.DeferUses.{given_if}
-use Rattle.rule_always.specs.Stays.{is_directive}
+use Rattle.rule_selection_queries.specs.Stays.{is_directive}
 
 module _ {P : Type 0} where
   -- ---- subscriptions
 
-  -- how many of these are fields
+  -- how many of these selections themselves are fields
   abbrev pub fields_in : MeantSelection P → ℕ
   fields_in (MeantField p d h s) = 1
   fields_in _ = 0
@@ -35,7 +35,7 @@ module _ {P : Type 0} where
     abbrev pub conditional : Placed P (DirectiveTree P) → List (Broken P)
     conditional e = if is_directive (codes "skip") e || is_directive (codes "include") e then broken e.place (SubscriptionUsesConditionalSelection (operation_name o)) ∷ [] else []
 
-    -- of one selection at the root
+    -- what is told of one selection at the root
     abbrev pub at_root : MeantSelection P → List (Broken P)
     at_root s = introspection s ++ flat_map conditional (selection_directives s)
 
@@ -44,7 +44,7 @@ module _ {P : Type 0} where
     abbrev pub deferred_at_root : Placed P (DirectiveTree P) → List (Broken P)
     deferred_at_root e = if is_directive (codes "defer") e then broken e.place (DeferOnRootMutationOrSubscriptionField o.operation_type) ∷ [] else []
 
-    -- of one selection at the root: fields may be deferred
+    -- what is told of one selection at the root: nothing of a field
     abbrev pub fragment_deferred : MeantSelection P → List (Broken P)
     fragment_deferred (MeantField p d h s) = []
     fragment_deferred (MeantSpread p n ds) = flat_map deferred_at_root ds

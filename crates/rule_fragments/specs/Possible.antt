@@ -6,18 +6,18 @@ use Rattle.schema_types.specs.Addresses.{under}
 use Rattle.rule_definitions.specs.Judged.{Judged}
 use Rattle.rule_document_definitions.specs.PossibleTypes.{CanBe}
 
--- what contracts see of possible types: under the name of each type those of the objects that its values can be
+-- what contracts see of possible types: under the name of each type the names of the objects that its values can be
 abbrev pub ObjectsOfTypes : Type 0
 ObjectsOfTypes = Entries (List (List ℕ))
 
--- of the type of that name
+-- the objects of the type of that name
 abbrev pub objects_of : ObjectsOfTypes → List ℕ → List (List ℕ)
 objects_of p n = option_map_or (λ objects. objects) (under n p) []
 
--- under each name stand the objects that values of the type of that name can be, and no more
+-- under each name are exactly the objects that values of the type of that name can be
 abbrev pub ArePossible : Judged → ObjectsOfTypes → Type 0
 ArePossible s p = (n object : List ℕ) → Contains (objects_of p n) object ↔ CanBe s n object
 
--- the same of those that are found, if they are found yet
+-- the same for possible types that may not be found yet
 abbrev pub ArePossibleIfFound : Judged → Option ObjectsOfTypes → Type 0
 ArePossibleIfFound s found = IfSome found (ArePossible s)

@@ -1,4 +1,4 @@
--- Private: leads to `Told`. The graph of the fragments of a document.
+-- Private: leads to `FragmentCycles`. The graph of the fragments of a document.
 use Rattle.std.specs.Prelude.{◌≡◌, ℕ, length, bytes_eq}
 use Rattle.std.specs.List.{IsDistinct}
 use Rattle.std.specs.Map.{keys_of}
@@ -6,7 +6,7 @@ use Rattle.graphql_names.specs.Placed.{Place}
 use Rattle.graphql_names.specs.declared.node.Node.{Node}
 use Rattle.schema_components.specs.Names.{Entries}
 use Rattle.document_typed_selections.specs.declared.selection.FragmentSpread.{FragmentSpread}
-use Rattle.document_meaning.specs.MeantTree.{MeantFragment}
+use Rattle.spec_document.specs.MeantTree.{MeantFragment}
 use Rattle.rule_cycle_search.specs.declared.graph.Graph.{Graph}
 use Rattle.rule_cycle_search.specs.Graph.{references}
 use Rattle.rule_document_definitions.specs.Limits.{spread_bound}
@@ -21,7 +21,8 @@ pub record IsSpreadGraph (es : Entries (MeantFragment Place)) (g : Graph) : Type
   pub bound : g.bound ≡ spread_bound
   pub refers : (i : ℕ) → references g i ≡ targets (references_at es i)
 
--- what fragments, whose names differ, refer to, and by which spreads first
+-- the fragments have different names, the graph is that of their references, and r has the first spread for each
+-- reference
 pub record AreSpreadReferences (es : Entries (MeantFragment Place)) (r : References (Node FragmentSpread)) : Type 0 where
   pub distinct : IsDistinct bytes_eq (keys_of es)
   pub graph : IsSpreadGraph es r.graph

@@ -5,12 +5,12 @@ use Rattle.std.specs.List.{list_any}
 use Rattle.tree_directives.specs.DirectiveTree.{Directives}
 use Rattle.schema_components.specs.Names.{Entries}
 use Rattle.schema_types.specs.Addresses.{under}
-use Rattle.document_meaning.specs.MeantTree.{MeantSelection, MeantField, MeantSpread, MeantInline, MeantSet, meant_set, MeantSelections, no_meant, meant_then, MeantFragment}
+use Rattle.spec_document.specs.MeantTree.{MeantSelection, MeantField, MeantSpread, MeantInline, MeantSet, meant_set, MeantSelections, no_meant, meant_then, MeantFragment}
 use Rattle.rule_document_definitions.specs.RootFields.{meta_field_names}
-use Rattle.rule_always.specs.Stays.{is_directive}
+use Rattle.rule_selection_queries.specs.Stays.{is_directive}
 
 module _ {P : Type 0} where
-  -- the selections of a set itself
+  -- the selections of a set itself, not those in them
   abbrev pub listed : MeantSelections P → List (MeantSelection P)
   listed no_meant = []
   listed (meant_then s ss) = s ∷ listed ss
@@ -19,11 +19,11 @@ module _ {P : Type 0} where
   set_listed (meant_set t ss) = listed ss
 
   module _ (deferred : Bool) where
-    -- rules look at one of these directives: those on `@defer` at that, those on the root of a subscription at `@skip` and `@include`
+    -- the rules look at one of these directives: those on `@defer` look at `@defer`, those on the root of a subscription at `@skip` and `@include`
     abbrev pub has_noted : Directives P → Bool
     has_noted ds = if deferred then list_any (is_directive (codes "defer")) ds else (list_any (is_directive (codes "skip")) ds || list_any (is_directive (codes "include")) ds)
 
-    -- They find nothing at the selection, nor at what it leads to. Those on subscriptions do not enter fields
+    -- the rules find nothing at the selection, nor at what it leads to: it spreads nothing; those on subscriptions do not enter fields
     abbrev mutual
       pub is_quiet : MeantSelection P → Bool
       is_quiet (MeantField p d h s) = not (has_noted h.directives) && (if deferred then are_quiet s else not (list_any (bytes_eq h.name.it) meta_field_names))
@@ -37,12 +37,12 @@ module _ {P : Type 0} where
       all_quiet no_meant = true
       all_quiet (meant_then s ss) = is_quiet s && all_quiet ss
 
-    -- of the second set, the first leaves out only what is quiet
+    -- `left` has selections of `whole` only, and leaves out only quiet ones
     abbrev pub Leaves : MeantSet P → MeantSet P → Type 0
     Leaves left whole = ((s : MeantSelection P) → Contains (set_listed left) s → Contains (set_listed whole) s)
         × ((s : MeantSelection P) → Contains (set_listed whole) s → Contains (set_listed left) s ⊎ (is_quiet s ≡ true))
 
-    -- under the name of each fragment stands one that leaves out of it only that, and under no other name one
+    -- `instead` has names where `fragments` has names, and under each a fragment that leaves out only quiet selections of the one of that name
     pub record StandIn (fragments instead : Entries (MeantFragment P)) : Type 0 where
       pub there : (n : List ℕ) (g : MeantFragment P) → under n fragments ≡ Some g → (h : MeantFragment P) × ((under n instead ≡ Some h) × Leaves h.set g.set)
       pub absent : (n : List ℕ) → under n fragments ≡ None → under n instead ≡ None

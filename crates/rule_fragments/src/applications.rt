@@ -1,4 +1,4 @@
-//! Fragments where they stand, and the rules on the types that they are on.
+//! Fragments that selections apply, and the rules on the types that they are on.
 ghost use Rattle.std.specs.Prelude.{◌≡◌, [], ◌⊎◌, true, Some, IfOk, OnOk, IfSome};
 ghost use Rattle.std.specs.Option.{option_map};
 ghost use Rattle.graphql_names.specs.Placed.{Place};
@@ -6,12 +6,12 @@ ghost use Rattle.schema_types.specs.Addresses.{TypeAt, place_at};
 ghost use Rattle.rule_cycles.specs.in_schema.SchemaOf.{schema_tree};
 ghost use Rattle.document_typed_selections.specs.TypedTree.{typed_selection_tree};
 ghost use Rattle.document_typed_selections.specs.TypedParts.{typed_spread_node, typed_inline_node};
-ghost use Rattle.document_meaning.specs.MeantTree.{MeantOperation, MeantDocument, meant};
+ghost use Rattle.spec_document.specs.MeantTree.{MeantOperation, MeantDocument, meant};
 ghost use Rattle.fault_data.specs.Adds.{Adds};
 ghost use Rattle.rule_definitions.specs.Judged.{judged};
 ghost use Rattle.rule_document_definitions.specs.Fragments.{InvalidFragmentTargetAt, InvalidFragmentSpreadAt};
-ghost use Rattle.rule_document_definitions.specs.Told.{places_in};
-ghost use Rattle.rule_document_ground.specs.Reach.{IsReachOf, meant_fragments, reached_members};
+ghost use Rattle.rule_document_definitions.specs.PlacedDocumentFaults.{places_in};
+ghost use Rattle.rule_reach.specs.Reach.{IsReachOf, meant_fragments, reached_members};
 ghost use Rattle.rule_fragments.specs.Possible.{ArePossible, ArePossibleIfFound};
 ghost use Rattle.rule_fragments.specs.Applied.{application_tree, application_in, stands_on_its_type, all_stand_on_their_types};
 ghost use Rattle.rule_fragments.specs.Telling.{AddsThese, invalid_spread, invalid_spreads};
@@ -24,22 +24,22 @@ use document_typed_selections::{FragmentSpread, InlineFragment, Selection};
 use fault_data::{DiagnosticData, Fault, tell};
 use graphql_names::{Name, Node, SourceSpan};
 use rule_cycles::Schema;
-use rule_document_ground::Reach;
+use rule_reach::Reach;
 use std::alloc::{AllocError, Global};
 
-/// A fragment where it stands: by its name, or inline with a condition.
+/// A fragment that a selection applies: by its name, or inline with a condition.
 #[derive(Drop)]
 struct Application<'doc> {
     /// None of an inline fragment.
     name: Option<&'doc Name>,
     condition: &'doc Name,
-    /// Where it stands.
+    /// The place of the spread, or of the inline fragment.
     location: Option<SourceSpan>,
-    /// Where it is defined: an inline fragment, where it stands.
+    /// Where the fragment is defined: for an inline fragment, its own place.
     fragment_location: Option<SourceSpan>,
 }
 
-/// The fragment that is spread, if it is there.
+/// The fragment that is spread, if it is defined.
 fn spread_application<'doc>(
     spread: &'doc Node<FragmentSpread>,
     fragments: &'doc FragmentMap,
@@ -88,7 +88,7 @@ fn application_of<'doc>(
     }
 }
 
-/// Whether the selection is no fragment, or one on the very type where it stands, which is `parent`.
+/// Whether the selection applies no fragment, or one on the very type of its set, which is `parent`.
 fn stands_on_its_type(fragments: &FragmentMap, parent: &Name, selection: &Selection) -> bool
     ensures { result ≡ stands_on_its_type (meant_fragments fragments.now) (parent.now.text, meant (typed_selection_tree selection.now)) }
 {
@@ -98,7 +98,7 @@ fn stands_on_its_type(fragments: &FragmentMap, parent: &Name, selection: &Select
     }
 }
 
-/// Whether each fragment is on the very type where it stands. It can apply there, whatever types are possible.
+/// Whether each fragment is on the very type of the set that applies it. Then it can apply, whatever types are possible.
 fn all_stand_on_their_types(fragments: &FragmentMap, reach: &Reach<'_>) -> bool
     ensures { result ≡ all_stand_on_their_types (meant_fragments fragments.now) (reached_members reach.now) }
 {
@@ -181,9 +181,9 @@ pub(crate) fn found_or_new(
 }
 
 /// Adds the faults of the types of fragments that an operation reaches: InvalidFragmentTarget, of a fragment on a type that is
-/// not composite, and InvalidFragmentSpread, of one that cannot apply where it stands. `possible` has the possible types of the
-/// schema, once they are found. They are found here, where they are not yet and some fragment is on another type than that
-/// where it stands, and stay for the next operation. Fails where memory is refused.
+/// not composite, and InvalidFragmentSpread, of one that cannot apply where it is. `possible` has the possible types of the
+/// schema, once they are found. If they are not found yet, and some fragment is on another type than the set that applies it,
+/// they are found here and kept for the next operation. Fails if memory is refused.
 pub fn check_applications(
     schema: &Schema,
     possible: &mut Option<PossibleTypes>,

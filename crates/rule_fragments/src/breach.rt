@@ -1,6 +1,6 @@
 //! What breaks a rule.
 
-use fault_document_data::BuildError;
+use fault_document_errors::BuildError;
 use graphql_names::SourceSpan;
 
 /// What breaks a rule, and where.

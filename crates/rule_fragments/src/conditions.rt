@@ -1,4 +1,4 @@
-//! Conditions with which inline fragments may apply where they stand, for what operations share.
+//! Conditions with which inline fragments may apply in their sets, for what operations share.
 ghost use Rattle.std.specs.Prelude.{IfOk, OnOk};
 ghost use Rattle.rule_cycles.specs.in_schema.SchemaOf.{schema_tree};
 ghost use Rattle.rule_definitions.specs.Judged.{judged};
@@ -8,17 +8,16 @@ ghost use Rattle.rule_fragments.specs.Possible.{ArePossibleIfFound};
 use crate::applications::found_or_new;
 use crate::possible_types::{PossibleTypes, note};
 use crate::targets::is_no_composite;
-use document_typed_operations::{ExecutableDocument, FragmentMap};
+use document_typed_operations::{ExecutableDocument, FragmentMap, ReachedSelections};
 use document_typed_selections::{Selection, SelectionSet};
-use document_walks::ReachedSelections;
 use graphql_names::Name;
 use indexmap::{IndexMap, IndexSet};
 use rule_cycles::Schema;
 use std::alloc::{AllocError, Global};
 
 /// Notes the condition under the type, if nothing is told of an inline fragment with it in a set on the type: the condition is
-/// on no type without fields, and it may apply. The possible types are found here, where they are not yet and the condition
-/// is another type.
+/// no type without fields, and the fragment may apply. If the possible types are not found yet and the condition is another
+/// type, they are found here.
 fn note_if_applies(
     schema: &Schema,
     possible: &mut Option<PossibleTypes>,
@@ -44,7 +43,7 @@ fn note_if_applies(
     Ok(())
 }
 
-/// The same of the condition of a selection of a set on the type, if it is an inline fragment with one.
+/// The same for the condition of a selection of a set on the type, if it is an inline fragment with one.
 fn note_condition(
     schema: &Schema,
     possible: &mut Option<PossibleTypes>,
@@ -64,7 +63,7 @@ fn note_condition(
     }
 }
 
-/// The same of each in a set, at any depth.
+/// The same for each selection in a set, at any depth.
 fn note_conditions_in(
     schema: &Schema,
     possible: &mut Option<PossibleTypes>,
@@ -84,7 +83,7 @@ fn note_conditions_in(
     Ok(())
 }
 
-/// The same of each in these fragments.
+/// The same for each selection in these fragments.
 fn note_conditions(
     schema: &Schema,
     possible: &mut Option<PossibleTypes>,
@@ -101,10 +100,10 @@ fn note_conditions(
     Ok(())
 }
 
-/// Under names of types, the conditions of inline fragments in a document's fragments that are in sets on these types, are on
-/// no type without fields, and may apply there: none, where the document has one operation, since then nothing is shared.
-/// `possible` has the possible types of the schema, once they are found. They are found here, where they are not yet and some
-/// condition is another type than that where it stands. Fails where memory is refused.
+/// Under names of types, the conditions of inline fragments in a document's fragments that are in sets on these types, are no
+/// types without fields, and may apply there. There are none if the document has fewer than two operations, since then nothing
+/// is shared. `possible` has the possible types of the schema, once they are found. If they are not found yet, and some
+/// condition is another type than that of its set, they are found here. Fails if memory is refused.
 pub fn applying_conditions(
     alloc: Global,
     schema: &Schema,

@@ -56,7 +56,7 @@ fn spread_trace(
 }
 
 /// RecursiveFragmentDefinition: a fragment definition is valid only if no spreads lead from it back to it
-/// (section 5.5.2.2). These do, from the fragment of the number `root` along the path.
+/// (section 5.5.2.2). The spreads along the path lead back to this one, whose number is `root`.
 pub(crate) fn recursive_fragment_definition(
     fragment: &Node<Fragment>,
     references: &SpreadReferences,

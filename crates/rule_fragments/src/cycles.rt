@@ -1,15 +1,15 @@
 //! Tells which fragments spread themselves.
 ghost use Rattle.std.specs.Prelude.{◌≡◌, OnOk};
 ghost use Rattle.graphql_names.specs.Placed.{Place};
-ghost use Rattle.document_meaning.specs.MeantTree.{MeantDocument};
+ghost use Rattle.spec_document.specs.MeantTree.{MeantDocument};
 ghost use Rattle.fault_data.specs.FaultView.{faults_of};
 ghost use Rattle.rule_cycle_search.specs.Found.{AreFound};
-ghost use Rattle.rule_document_ground.specs.Reach.{meant_fragments};
-ghost use Rattle.rule_document_ground.specs.NotedNames.{noted_names};
+ghost use Rattle.rule_reach.specs.Reach.{meant_fragments};
+ghost use Rattle.rule_reach.specs.NotedNames.{noted_names};
 ghost use Rattle.rule_fragments.specs.Used.{AreUnderOwnNames, AreUsed};
 ghost use Rattle.rule_fragments.specs.SpreadViews.{fragment_entries, lent_at};
 ghost use Rattle.rule_fragments.specs.CycleFaults.{used_at, TellsSpreads, AddsFound};
-ghost use Rattle.rule_fragments.specs.Told.{TellsFragmentCycles};
+ghost use Rattle.rule_fragments.specs.FragmentCycles.{TellsFragmentCycles};
 
 use crate::cycle_faults::{deeply_nested_fragment, recursive_fragment_definition};
 use crate::spread_graph::{SpreadReferences, references_of_fragments};
@@ -17,8 +17,8 @@ use document_typed_operations::{Fragment, FragmentMap};
 use fault_data::Fault;
 use graphql_names::{Name, Node};
 use indexmap::IndexSet;
-use rule_cycle_search::{Found, ways_back};
-use rule_document_ground::has_name;
+use rule_cycle_search::{Found, find_cycles};
+use rule_reach::has_name;
 use std::alloc::{AllocError, Global};
 
 /// The fragment of that number, if its name is among those that are used.
@@ -37,7 +37,7 @@ fn used_fragment<'doc>(
     }
 }
 
-/// Adds the fault of a fragment, the one of the number `root`, of which this was found. None is told of no fragment.
+/// Adds the fault for what was found of a fragment, whose number is `root`; nothing if there is no fragment.
 fn tell_found(
     fragment: Option<&Node<Fragment>>,
     references: &SpreadReferences,
@@ -78,8 +78,8 @@ fn tell_cycles(
 }
 
 /// Adds RecursiveFragmentDefinition for each fragment that an operation reaches and that reaches itself by spreads, with the
-/// spreads that lead back to it (section 5.5.2.2), or that ways of spreads from there hold more than 100 fragments. `used` has
-/// the names of the fragments that an operation reaches. Where memory is refused some may be told.
+/// spreads that lead back to it (section 5.5.2.2), or the fault that paths of spreads from it hold more than 100 fragments.
+/// `used` has the names of the fragments that an operation reaches. If memory is refused, some faults may be told.
 pub fn check_cycles(
     alloc: Global,
     fragments: &FragmentMap,
@@ -89,6 +89,6 @@ pub fn check_cycles(
     ensures { OnOk result ((d : MeantDocument Place) → d.fragments ≡ meant_fragments fragments.now → AreUnderOwnNames d → AreUsed d (noted_names used.now) → TellsFragmentCycles d (faults_of faults.old) (faults_of faults.new)) }
 {
     let references = references_of_fragments(alloc, fragments)?;
-    let all = ways_back(alloc, &references.graph)?;
+    let all = find_cycles(alloc, &references.graph)?;
     tell_cycles(fragments, used, &references, &all, faults)
 }

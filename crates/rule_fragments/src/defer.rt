@@ -3,19 +3,19 @@
 ghost use Rattle.std.specs.Prelude.{◌≡◌, flat_map, OnOk};
 ghost use Rattle.graphql_names.specs.Placed.{node_tree};
 ghost use Rattle.tree_directives.specs.DirectiveTree.{directive_tree};
-ghost use Rattle.rule_always.specs.in_ground.in_typed_operations.DocumentView.{document_meant, operation_meant};
+ghost use Rattle.rule_selection_queries.specs.in_reach.in_typed_operations.DocumentView.{document_meant, operation_meant};
 ghost use Rattle.rule_document_definitions.specs.Defer.{DeferBreaks};
 ghost use Rattle.rule_fragments.specs.Broken.{AddsBroken, AddsThese};
 ghost use Rattle.rule_fragments.specs.ListedBreaches.{deferred_at_root, fragment_deferred, is_conditional, deferred_always, always_deferred};
-ghost use Rattle.rule_always.specs.Lent.{lent, lent_all};
+ghost use Rattle.rule_selection_queries.specs.Lent.{lent, lent_all};
 
 use crate::breach::Breach;
 use crate::roots::root_selections;
 use document_typed_operations::{ExecutableDocument, Operation};
 use document_typed_selections::Selection;
-use fault_document_data::BuildError;
+use fault_document_errors::BuildError;
 use graphql_names::Node;
-use rule_always::{always_reached, tell_breach};
+use rule_selection_queries::{always_reached, tell_breach};
 use std::alloc::AllocError;
 use tree_directives::Directive;
 
@@ -36,7 +36,7 @@ fn defer_on_root_mutation_or_subscription_field(
     tell_breach(breaches, Some((directive.location(), breach)))
 }
 
-/// Adds what breaks that rule at a selection at the root: fields may be deferred.
+/// Adds what breaks that rule at a selection at the root: nothing for a field.
 #[tactic(auto, using(rule_definitions::proofs::Room::room_both, std::proofs::lemmas::Grind::common_steps))]
 fn check_root_selection(
     operation: &Node<Operation>,
@@ -122,9 +122,9 @@ fn check_all_always_reached(
     Ok(())
 }
 
-/// Adds what breaks the rules on `@defer` in an operation: at the root of a mutation or subscription no fragment has it, and in
-/// a subscription its `if` is `false` or a variable, unless on every way there a selection may be left out. Fails where
-/// memory is refused.
+/// Adds what breaks the rules on `@defer` in an operation: at the root of a mutation or subscription no fragment has it; in a
+/// subscription its `if` is `false` or a variable, unless on every path there some selection may be left out. Fails if memory
+/// is refused.
 pub fn check_defer(
     document: &ExecutableDocument,
     operation: &Node<Operation>,

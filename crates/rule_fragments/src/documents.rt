@@ -1,6 +1,6 @@
 //! What breaks the rules on subscriptions and on `@defer` in all operations of a document.
 ghost use Rattle.std.specs.Prelude.{◌↔◌, IfOk, IsTrue, OnOk};
-ghost use Rattle.rule_always.specs.in_ground.in_typed_operations.DocumentView.{document_meant};
+ghost use Rattle.rule_selection_queries.specs.in_reach.in_typed_operations.DocumentView.{document_meant};
 ghost use Rattle.rule_fragments.specs.Broken.{brokens_of};
 ghost use Rattle.rule_fragments.specs.Documents.{AddsDefers, AddsSubscriptions, DeferredTold, BreachesTold};
 ghost use Rattle.rule_fragments.specs.UnlessFull.{IsFull};
@@ -16,14 +16,14 @@ use fault_data::MOST_TOLD;
 use std::alloc::{AllocError, Global};
 
 /// Whether there are as many breaches as a call tells.
-// The list and no slice of it: contracts see the breaches of a list.
+// A `&Vec` and not a slice: contracts see the breaches of a list.
 fn is_full(breaches: &Vec<Breach>) -> bool
     ensures { IsTrue result ↔ IsFull (brokens_of breaches.now) }
 {
     breaches.len() >= MOST_TOLD
 }
 
-/// Adds what breaks the rules on `@defer` in each operation, up to the one where the list is full.
+/// Adds what breaks the rules on `@defer` in each operation, until the list is full.
 fn check_defers(document: &ExecutableDocument, breaches: &mut Vec<Breach>) -> Result<(), AllocError>
     ensures { OnOk result (AddsDefers breaches.old breaches.new (document_meant document.now)) }
 {
@@ -51,7 +51,7 @@ pub fn deferred_breaches(
     Ok(breaches)
 }
 
-/// Adds what breaks the rules on subscriptions in each operation, up to the one where the list is full.
+/// Adds what breaks the rules on subscriptions in each operation, until the list is full.
 fn check_subscriptions(
     document: &ExecutableDocument,
     breaches: &mut Vec<Breach>,
@@ -69,7 +69,7 @@ fn check_subscriptions(
     Ok(())
 }
 
-/// What breaks the rules on `@defer` in a document, and after it what breaks those on subscriptions (section 5.2.3): all of it,
+/// What breaks the rules on `@defer` in a document, and then what breaks those on subscriptions (section 5.2.3): all of it,
 /// or [`MOST_TOLD`].
 pub fn document_breaches(
     alloc: Global,

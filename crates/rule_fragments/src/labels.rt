@@ -5,29 +5,29 @@ ghost use Rattle.schema_components.specs.Lists.{each_place};
 ghost use Rattle.graphql_names.specs.Placed.{node_tree};
 ghost use Rattle.tree_literals.specs.ValueTree.{value_tree};
 ghost use Rattle.tree_directives.specs.DirectiveTree.{directive_tree};
-ghost use Rattle.document_meaning.specs.MeantTree.{meant_of_set};
+ghost use Rattle.spec_document.specs.MeantTree.{meant_of_set};
 ghost use Rattle.document_typed_selections.specs.TypedTree.{typed_set_tree};
-ghost use Rattle.rule_always.specs.in_ground.in_typed_operations.DocumentView.{document_meant};
+ghost use Rattle.rule_selection_queries.specs.in_reach.in_typed_operations.DocumentView.{document_meant};
 ghost use Rattle.rule_document_definitions.specs.DeferUses.{labels};
 ghost use Rattle.rule_document_definitions.specs.Defer.{LabelsBreak};
 ghost use Rattle.indexmap.specs.IndexMap.{get_by_text};
 ghost use Rattle.rule_fragments.specs.Broken.{AddsBroken, AddsThese};
 ghost use Rattle.rule_fragments.specs.Labels.{values_meant, label_of, labels_of, labels_at, labels_in, variable_label, label_again, label_breaks, told_again, NotesFirst, NotesLabel};
-ghost use Rattle.rule_always.specs.Lent.{lent};
+ghost use Rattle.rule_selection_queries.specs.Lent.{lent};
 ghost use Rattle.rule_fragments.specs.Rooted.{operation_set, fragment_set, alone_told};
 
 use crate::breach::Breach;
 use document_typed_operations::{ExecutableDocument, Fragment, Operation};
 use document_typed_selections::{Selection, SelectionSet};
-use fault_document_data::BuildError;
+use fault_document_errors::BuildError;
 use graphql_names::{Node, SourceSpan};
 use indexmap::IndexMap;
-use rule_always::tell_breach;
+use rule_selection_queries::tell_breach;
 use std::alloc::{AllocError, Global};
 use tree_directives::Directive;
 use tree_literals::Value;
 
-/// Adds what is given to the directive as label, if it is `@defer`. It is a copy that shares what it holds.
+/// Adds the value of the argument `label` of the directive, if it is `@defer`. It is a copy that shares its contents.
 fn push_label(directive: &Node<Directive>, found: &mut Vec<Node<Value>>) -> Result<(), AllocError>
     ensures { OnOk result (values_meant found.new.items ≡ values_meant found.old.items ++ label_of (node_tree directive_tree directive.now)) }
 {
@@ -169,7 +169,7 @@ fn duplicate_defer_label(
 /// The place of the first label of each text.
 type FirstPlaces = IndexMap<String, Option<SourceSpan>>;
 
-/// Notes the place under the text, unless there is one: that stays, and is given.
+/// Notes the place under the text, unless it has one already: that stays, and is returned.
 fn note_first(
     alloc: Global,
     places: &mut FirstPlaces,
@@ -217,7 +217,7 @@ fn check_each_label(labels: &[Node<Value>], breaches: &mut Vec<Breach>) -> Resul
 }
 
 /// Adds what breaks the rules on labels of `@defer` in the whole document: no label is a variable, and the labels that are
-/// strings differ; each later one is told with the place of the first. Fails where memory is refused.
+/// strings differ; each later one is told with the place of the first. Fails if memory is refused.
 pub fn check_labels(
     document: &ExecutableDocument,
     breaches: &mut Vec<Breach>,

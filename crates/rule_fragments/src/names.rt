@@ -8,7 +8,7 @@ ghost use Rattle.rule_document_definitions.specs.RootFields.{meta_field_names};
 use graphql_names::Name;
 use std::alloc::AllocError;
 
-/// The same name again, if there is one.
+/// A copy of the name, if there is one.
 pub(crate) fn copied_name(name: Option<&Name>) -> Result<Option<Name>, AllocError>
     ensures { IfOk result (λ r. option_map (λ n. n.text) r ≡ option_map (λ n. n.now.text) name.entry) }
 {

@@ -1,12 +1,12 @@
 //! The bound on the length of a path of selections.
 ghost use Rattle.std.specs.Prelude.{◌≡◌, IsTrue};
 ghost use Rattle.std.specs.List.{list_any};
-ghost use Rattle.document_meaning.specs.MeantTree.{meant_of_set};
+ghost use Rattle.spec_document.specs.MeantTree.{meant_of_set};
 ghost use Rattle.document_typed_selections.specs.TypedTree.{typed_set_tree};
-ghost use Rattle.rule_always.specs.in_ground.in_typed_operations.DocumentView.{document_meant};
+ghost use Rattle.rule_selection_queries.specs.in_reach.in_typed_operations.DocumentView.{document_meant};
 ghost use Rattle.rule_document_definitions.specs.Limits.{path_bound, PassesPathBound};
 ghost use Rattle.rule_fragments.specs.Nested.{NestsTooDeep, deeper_in, deeper_of, some_nests};
-ghost use Rattle.rule_always.specs.Lent.{lent};
+ghost use Rattle.rule_selection_queries.specs.Lent.{lent};
 ghost use Rattle.rule_fragments.specs.Rooted.{operation_set, fragment_set, alone_so};
 
 use document_typed_operations::{ExecutableDocument, Fragment, Operation};
@@ -16,7 +16,7 @@ use graphql_names::Node;
 /// The greatest length of a path of selections, each inside the one before or inside the fragment that it spreads.
 const PATH_BOUND: usize = 500;
 
-/// Whether a path of more than `bound` selections begins in the set, each standing in the one before: spreads are not entered.
+/// Whether a path of more than `bound` selections begins in the set, each in the set of the one before: spreads are not entered.
 /// It goes no deeper than the bound.
 #[cycle(nesting)]
 fn nests_deeper(set: &SelectionSet, bound: usize) -> bool
@@ -92,8 +92,8 @@ fn some_nests(document: &ExecutableDocument) -> bool
     alone || named || fragments
 }
 
-/// Whether in the text of some operation or fragment a path of more than 500 selections stands, each inside the one before. Then
-/// the document passes the bound on such paths; one that passes it through spreads alone is not found.
+/// Whether in the text of some operation or fragment there is a path of more than 500 selections, each in the set of the one
+/// before. Then the document passes the bound on such paths; one that passes it only through spreads is not found.
 pub fn passes_path_bound(document: &ExecutableDocument) -> bool
     ensures right { IsTrue result → PassesPathBound (document_meant document.now) }
     ensures found { NestsTooDeep (document_meant document.now) → IsTrue result }

@@ -22,11 +22,11 @@ use std::rc::Rc;
 /// For each type of a schema the names of the object types that its values can be (GetPossibleTypes, section 5.5.2.3): of an
 /// object itself, of an interface the objects that implement it, of a union the objects among its members.
 ///
-/// Contracts see these names under those of the types. What was found of two types is kept beside them.
+/// Contracts see these names under those of the types. What was found of pairs of types is kept beside them.
 pub struct PossibleTypes {
     /// All documents over the schema share them.
     objects: Rc<IndexMap<Name, IndexSet<Name>>>,
-    /// Whether two types have an object in common, under their indices, of each two that were asked for.
+    /// For each pair of types that was asked for, by their indices: whether they have an object in common.
     common: IndexMap<(usize, usize), bool>,
 }
 
@@ -52,11 +52,11 @@ impl Model for PossibleTypes {
 }
 
 impl PossibleTypes {
-    /// Those of the schema. Fails where memory is refused.
+    /// The possible types of the schema. Fails if memory is refused.
     pub fn new(alloc: Global, schema: &Schema) -> Result<PossibleTypes, AllocError>
         ensures { IfOk result (λ p. ArePossible (judged (schema_tree schema.now)) p) }
     {
-        // each name is in the map once
+        // a contract of `len` says that each name is in the map once
         let _count = schema.types.len();
         let mut objects = IndexMap::new(alloc);
         for (name, ty) in &schema.types {
@@ -86,7 +86,7 @@ impl PossibleTypes {
         }
     }
 
-    /// Whether the types at these indices have an object in common. It is found once for each two of them.
+    /// Whether the types at these indices have an object in common. It is found once for each pair.
     fn have_common(&mut self, here: usize, there: usize) -> Result<bool, AllocError>
         ensures common { IfOk result (λ r. r ≡ share_at self.old here there) }
         ensures same { self.new ≡ self.old }
@@ -100,8 +100,8 @@ impl PossibleTypes {
     }
 }
 
-/// The possible types of a schema, if they are there, for one more document. They are shared and not copied, and nothing was
-/// asked of them yet. Fails where memory is refused.
+/// The possible types of a schema, if they are found, for one more document. They are shared and not copied, and no pairs of
+/// types are remembered yet. Fails if memory is refused.
 pub fn for_document(
     alloc: Global,
     possible: Option<&PossibleTypes>,
@@ -153,7 +153,7 @@ fn some_is_in(names: &IndexSet<Name>, set: &IndexSet<Name>) -> bool
     false
 }
 
-/// Notes of which types the values can be of this one, if it is an object; of a union, which objects its values can be.
+/// Notes an object type under its own name and those of its interfaces, and the objects in a union under the union's name.
 fn note_type(
     schema: &Schema,
     noted: &mut IndexMap<Name, IndexSet<Name>>,
@@ -248,7 +248,7 @@ fn note_member(
     }
 }
 
-/// Whether the type of that name is there and an object.
+/// Whether the type of that name is defined and is an object.
 fn is_object(schema: &Schema, name: &Name) -> bool
     ensures { result ≡ is_object (schema_tree schema.now) name.now.text }
 {

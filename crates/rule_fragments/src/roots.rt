@@ -1,17 +1,16 @@
 //! The selections at the root of an operation.
 ghost use Rattle.std.specs.Prelude.{◌↔◌, IfOk, IsTrue};
-ghost use Rattle.rule_always.specs.in_ground.in_typed_operations.DocumentView.{document_meant, operation_meant};
+ghost use Rattle.rule_selection_queries.specs.in_reach.in_typed_operations.DocumentView.{document_meant, operation_meant};
 ghost use Rattle.rule_fragments.specs.Rooted.{AreRoots, HasSeveralFields};
 ghost use Rattle.rule_fragments.specs.Used.{AreUnderOwnNames};
-ghost use Rattle.rule_always.specs.Lent.{lent_all};
+ghost use Rattle.rule_selection_queries.specs.Lent.{lent_all};
 
-use document_typed_operations::{ExecutableDocument, Operation};
+use document_typed_operations::{ExecutableDocument, Operation, ReachedSelections};
 use document_typed_selections::Selection;
-use document_walks::ReachedSelections;
 use graphql_names::Node;
 use std::alloc::{AllocError, Global};
 
-/// The selections at the root of the operation, through fragments, each once, as copies that share what they hold.
+/// The selections at the root of the operation, through fragments, each once, as copies that share their contents.
 pub(crate) fn root_selections(
     alloc: Global,
     document: &ExecutableDocument,
@@ -27,7 +26,7 @@ pub(crate) fn root_selections(
     Ok(roots)
 }
 
-/// Whether the operation has more than one field at its root, through fragments. The walk ends at the second.
+/// Whether the operation has more than one field at its root, through fragments. The walk ends at the second field.
 pub(crate) fn has_several_fields(
     alloc: Global,
     document: &ExecutableDocument,

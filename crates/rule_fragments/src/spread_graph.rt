@@ -1,6 +1,6 @@
 //! What fragments refer to by spreads (section 5.5.2.2).
 ghost use Rattle.std.specs.Prelude.{◌≡◌, map, IfOk, OnOk};
-ghost use Rattle.document_meaning.specs.MeantTree.{meant_of_set};
+ghost use Rattle.spec_document.specs.MeantTree.{meant_of_set};
 ghost use Rattle.document_typed_selections.specs.TypedTree.{typed_set_tree};
 ghost use Rattle.rule_cycles.specs.Numbers.{number_of};
 ghost use Rattle.rule_fragments.specs.SpreadNumbers.{spread_references, references_in, references_of, references_at};
@@ -14,7 +14,7 @@ use graphql_names::{Name, Node};
 use rule_cycles::{Reference, References};
 use std::alloc::{AllocError, Global};
 
-/// The most fragments on a way of spreads.
+/// The most fragments on a path of spreads.
 const BOUND: u32 = 100;
 
 /// A spread by which a fragment refers to another, and the number of that one.
@@ -23,14 +23,14 @@ pub(crate) type SpreadReference = Reference<Node<FragmentSpread>>;
 /// What fragments refer to, and by which spread first.
 pub(crate) type SpreadReferences = References<Node<FragmentSpread>>;
 
-/// The number of the fragment of that name, if it is there.
+/// The number of the fragment of that name, if it is defined.
 fn fragment_number(fragments: &FragmentMap, name: &Name) -> Option<usize>
     ensures { result ≡ number_of name.now.text (fragment_entries fragments.now) }
 {
     fragments.get_index_of(name)
 }
 
-/// Adds the reference of a spread, if its fragment is there.
+/// Adds the reference of a spread, if its fragment is defined.
 fn add_spread(
     fragments: &FragmentMap,
     spread: &Node<FragmentSpread>,

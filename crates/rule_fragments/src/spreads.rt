@@ -1,16 +1,16 @@
-//! Spreads of fragments that are not there.
+//! Spreads of fragments that are not defined.
 ghost use Rattle.std.specs.Prelude.{◌≡◌, OnOk};
 ghost use Rattle.graphql_names.specs.Placed.{Place};
-ghost use Rattle.document_meaning.specs.MeantTree.{MeantOperation, MeantDocument};
+ghost use Rattle.spec_document.specs.MeantTree.{MeantOperation, MeantDocument};
 ghost use Rattle.fault_data.specs.Adds.{Adds};
 ghost use Rattle.rule_document_definitions.specs.Fragments.{UndefinedFragmentAt};
-ghost use Rattle.rule_document_ground.specs.Reach.{IsReachOf, meant_fragments};
+ghost use Rattle.rule_reach.specs.Reach.{IsReachOf, meant_fragments};
 ghost use Rattle.rule_fragments.specs.Telling.{AddsThese, undefined_spread};
 
 use document_typed_operations::FragmentMap;
 use document_typed_selections::Selection;
 use fault_data::{DiagnosticData, Fault, tell};
-use rule_document_ground::Reach;
+use rule_reach::Reach;
 use std::alloc::AllocError;
 
 /// UndefinedFragment: a fragment spread is valid only if the fragment is defined (section 5.5.2.1).
@@ -34,7 +34,7 @@ fn undefined_fragment(
     tell(faults, Some(Fault { location, data }))
 }
 
-/// Adds UndefinedFragment for each spread that is reached of a fragment that is not there. Fails where memory is refused.
+/// Adds UndefinedFragment for each spread that is reached and whose fragment is not defined. Fails if memory is refused.
 pub fn check_spreads(
     fragments: &FragmentMap,
     reach: &Reach<'_>,

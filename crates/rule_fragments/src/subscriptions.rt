@@ -2,11 +2,11 @@
 ghost use Rattle.std.specs.Prelude.{false, flat_map, OnOk};
 ghost use Rattle.graphql_names.specs.Placed.{node_tree};
 ghost use Rattle.tree_directives.specs.DirectiveTree.{directive_tree};
-ghost use Rattle.rule_always.specs.in_ground.in_typed_operations.DocumentView.{document_meant, operation_meant};
+ghost use Rattle.rule_selection_queries.specs.in_reach.in_typed_operations.DocumentView.{document_meant, operation_meant};
 ghost use Rattle.rule_document_definitions.specs.Subscriptions.{SubscriptionUsesMultipleFieldsAt, SubscriptionBreaks};
 ghost use Rattle.rule_fragments.specs.Broken.{AddsBroken, AddsThese};
 ghost use Rattle.rule_fragments.specs.ListedBreaches.{introspection, conditional, at_root};
-ghost use Rattle.rule_always.specs.Lent.{lent, lent_all};
+ghost use Rattle.rule_selection_queries.specs.Lent.{lent, lent_all};
 ghost use Rattle.rule_fragments.specs.Thinned.{StandIn};
 ghost use Rattle.rule_fragments.specs.Used.{AreUnderOwnNames};
 
@@ -15,9 +15,9 @@ use crate::names::is_meta_field_name;
 use crate::roots::{has_several_fields, root_selections};
 use document_typed_operations::{ExecutableDocument, Operation};
 use document_typed_selections::Selection;
-use fault_document_data::BuildError;
+use fault_document_errors::BuildError;
 use graphql_names::Node;
-use rule_always::tell_breach;
+use rule_selection_queries::tell_breach;
 use std::alloc::AllocError;
 use tree_directives::Directive;
 
@@ -110,8 +110,8 @@ fn check_root_selections(
 }
 
 /// Adds what breaks the rules on the root of a subscription, if the operation is one: it has one field, through fragments;
-/// this is no meta-field; and no selection has `@skip` or `@include` (section 5.2.3.1). `thin` is the document, or one with what
-/// is left of its fragments without quiet selections. Fails where memory is refused.
+/// that is no meta-field; and no selection has `@skip` or `@include` (section 5.2.3.1). `thin` is the document, or one whose
+/// fragments have lost quiet selections. Fails if memory is refused.
 pub fn check_subscription(
     document: &ExecutableDocument,
     thin: &ExecutableDocument,

@@ -1,7 +1,7 @@
 //! Types that fragments are on.
 ghost use Rattle.std.specs.Prelude.{◌≡◌, flat_map, None, OnOk};
 ghost use Rattle.rule_cycles.specs.in_schema.SchemaOf.{schema_tree};
-ghost use Rattle.rule_document_ground.specs.Reach.{reached_fragments_of};
+ghost use Rattle.rule_reach.specs.Reach.{reached_fragments_of};
 ghost use Rattle.rule_fragments.specs.Listed.{is_no_composite, fragment_target, inline_target};
 ghost use Rattle.rule_fragments.specs.Telling.{AddsThese, meant_selection, invalid_target, inline_targets, AddsTargets};
 ghost use Rattle.rule_fragments.specs.SpreadViews.{fragment_meant};
@@ -12,10 +12,10 @@ use document_typed_selections::Selection;
 use fault_data::{DiagnosticData, Fault, tell};
 use graphql_names::{Name, Node, SourceSpan};
 use rule_cycles::Schema;
-use rule_document_ground::Reach;
+use rule_reach::Reach;
 use std::alloc::AllocError;
 
-/// Whether the type of that name is there and is no object, interface or union.
+/// Whether the type of that name is defined and is no object, interface or union.
 pub(crate) fn is_no_composite(schema: &Schema, name: &Name) -> bool
     ensures { result ≡ is_no_composite (schema_tree schema.now) name.now.text }
 {
@@ -45,7 +45,7 @@ fn invalid_fragment_target(
     tell(faults, Some(Fault { location, data }))
 }
 
-/// That rule for a fragment.
+/// Adds what breaks that rule at a fragment.
 fn fragment_target(
     schema: &Schema,
     fragment: &Node<Fragment>,
@@ -63,7 +63,7 @@ fn fragment_target(
     )
 }
 
-/// That rule for a selection, if it is an inline fragment with a condition.
+/// Adds what breaks that rule at a selection, if it is an inline fragment with a condition.
 fn inline_target(
     schema: &Schema,
     selection: &Selection,

@@ -1,12 +1,12 @@
 //! Documents without those selections of their fragments at which the rules on `@defer`, or those on the root of a subscription,
-//! find nothing. What operations share is looked through once then, and not for each of them.
+//! find nothing. So what operations share is examined once, and not for each of them.
 ghost use Rattle.std.specs.Prelude.{◌≡◌, unwrap_or, IfOk, OnOk};
-ghost use Rattle.document_meaning.specs.MeantTree.{meant_of_set};
+ghost use Rattle.spec_document.specs.MeantTree.{meant_of_set};
 ghost use Rattle.document_typed_selections.specs.TypedTree.{typed_set_tree};
-ghost use Rattle.rule_always.specs.in_ground.in_typed_operations.DocumentView.{document_meant};
-ghost use Rattle.rule_always.specs.Lent.{lent};
+ghost use Rattle.rule_selection_queries.specs.in_reach.in_typed_operations.DocumentView.{document_meant};
+ghost use Rattle.rule_selection_queries.specs.Lent.{lent};
 ghost use Rattle.rule_document_definitions.specs.Selected.{selection_directives};
-ghost use Rattle.rule_document_ground.specs.Reach.{meant_fragments};
+ghost use Rattle.rule_reach.specs.Reach.{meant_fragments};
 ghost use Rattle.rule_fragments.specs.Rooted.{fragment_set};
 ghost use Rattle.rule_fragments.specs.Thinned.{has_noted, is_quiet, are_quiet, Leaves, StillStandIn, StandIn};
 
@@ -16,8 +16,8 @@ use document_typed_selections::{Selection, SelectionSet};
 use graphql_names::{Name, Node};
 use std::alloc::{AllocError, Global};
 
-/// Whether the rules look at a directive on the selection: those on `@defer` at that, those on subscriptions at `@skip` and
-/// `@include`.
+/// Whether the rules look at a directive on the selection: those on `@defer` look at `@defer`, those on subscriptions at `@skip`
+/// and `@include`.
 fn has_noted(deferred: bool, selection: &Selection) -> bool
     ensures { result ≡ has_noted deferred (selection_directives (lent selection.now)) }
 {
@@ -41,7 +41,7 @@ fn are_quiet(deferred: bool, set: &SelectionSet) -> bool
     true
 }
 
-/// Whether the rules find nothing at the selection, nor at what it leads to: it spreads nothing. Those on subscriptions do not
+/// Whether the rules find nothing at the selection, nor at what it leads to; a spread is not quiet. Those on subscriptions do not
 /// enter fields.
 #[cycle(quiet)]
 fn is_quiet(deferred: bool, selection: &Selection) -> bool
@@ -80,7 +80,7 @@ fn thinned_set(
     Ok(kept)
 }
 
-/// The fragment without its quiet selections, where it stands.
+/// The fragment without its quiet selections, at the same place.
 fn thinned_fragment(
     alloc: Global,
     deferred: bool,
@@ -133,9 +133,9 @@ fn are_several(deferred: bool, document: &ExecutableDocument) -> bool {
     false
 }
 
-/// A document in which the rules on `@defer`, or if `deferred` is false those on the root of a subscription, find the same of each
-/// operation, if there are several such operations: it has none itself, and its fragments have only what is not quiet. Else
-/// nothing: then it is the document itself.
+/// If several operations are of such a kind: a document without operations, whose fragments are those of this one without their
+/// quiet selections, so that with it the rules on `@defer`, or, if `deferred` is false, those on the root of a subscription, find
+/// the same in each operation. Otherwise nothing, and the document itself is used.
 pub(crate) fn thinned_if_shared(
     alloc: Global,
     deferred: bool,

@@ -1,11 +1,11 @@
 //! Fragments that no operation reaches.
 ghost use Rattle.std.specs.Prelude.{◌≡◌, OnOk};
 ghost use Rattle.graphql_names.specs.Placed.{Place};
-ghost use Rattle.document_meaning.specs.MeantTree.{MeantDocument};
+ghost use Rattle.spec_document.specs.MeantTree.{MeantDocument};
 ghost use Rattle.fault_data.specs.Adds.{Adds};
 ghost use Rattle.rule_document_definitions.specs.Fragments.{UnusedFragmentAt};
-ghost use Rattle.rule_document_ground.specs.Reach.{meant_fragments};
-ghost use Rattle.rule_document_ground.specs.NotedNames.{noted_names};
+ghost use Rattle.rule_reach.specs.Reach.{meant_fragments};
+ghost use Rattle.rule_reach.specs.NotedNames.{noted_names};
 ghost use Rattle.rule_fragments.specs.Used.{AreUnderOwnNames, AreUsed};
 ghost use Rattle.rule_fragments.specs.Unused.{unused_fragment};
 ghost use Rattle.rule_fragments.specs.SpreadViews.{fragment_meant};
@@ -15,7 +15,7 @@ use document_typed_operations::{Fragment, FragmentMap};
 use fault_data::{DiagnosticData, Fault, tell};
 use graphql_names::{Name, Node};
 use indexmap::IndexSet;
-use rule_document_ground::has_name;
+use rule_reach::has_name;
 use std::alloc::AllocError;
 
 /// UnusedFragment: a fragment definition is valid only if an operation uses it (section 5.5.1.4). `used` has the names of
@@ -52,8 +52,8 @@ fn tell_unused(
     Ok(())
 }
 
-/// Adds UnusedFragment for each fragment that no operation reaches. `used` has the names of those that one reaches. Where
-/// memory is refused some may be told.
+/// Adds UnusedFragment for each fragment that no operation reaches. `used` has the names of those that one reaches. If
+/// memory is refused, some faults may be told.
 pub fn check_unused(
     fragments: &FragmentMap,
     used: &IndexSet<Name>,
@@ -61,7 +61,7 @@ pub fn check_unused(
 ) -> Result<(), AllocError>
     ensures { OnOk result ((d : MeantDocument Place) → d.fragments ≡ meant_fragments fragments.now → AreUnderOwnNames d → AreUsed d (noted_names used.now) → Adds faults.old faults.new (λ f. UnusedFragmentAt d f)) }
 {
-    // A map that is asked for its length says that its names differ, which the rule takes for granted.
+    // A contract of `len` says that the names in a map differ, as the rule takes for granted.
     let _distinct = fragments.len();
     tell_unused(fragments, used, faults)
 }

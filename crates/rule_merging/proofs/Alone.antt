@@ -3,15 +3,15 @@
 use Rattle.std.proofs.Common.{◌≡◌, ◌⊎◌, ◌∙◌, Bool, false, true≢false, List, [], ◌∷◌, map, Contains, append-nil, refl, sym, subst, inl, inr}
 use Rattle.std.proofs.lemmas.List.Elements.{Contains-append_left, Contains-append_right, Contains-append_cases}
 use Rattle.graphql_names.specs.Placed.{Place}
-use Rattle.rule_field_groups.specs.in_meaning.MeantTree.{MeantOperation, MeantDocument}
+use Rattle.rule_field_groups.specs.in_spec_document.MeantTree.{MeantOperation, MeantDocument}
 use Rattle.rule_field_groups.specs.in_definitions.Judged.{Judged}
 use Rattle.rule_field_groups.proofs.in_definitions.Lists.{not_in_nil, only, is_only}
 use Rattle.rule_field_groups.specs.in_document_definitions.ReadFields.{ReadField, ReadSameKey, ReadSameShape, ReadBelow, ReadStarts, AreReadShapesStanding, fragments_read, set_read}
 use Rattle.rule_field_groups.specs.in_document_definitions.Settled.{StandIn, StandWhere, StartsStand, IsSettledIn}
 use Rattle.rule_field_groups.proofs.in_document_definitions.Unplaced.{contains_map, contains_unmap}
-use Rattle.rule_field_groups.specs.in_sets.in_ground.Broken.{brokens_of}
-use Rattle.rule_document_ground.specs.LoneKeys.{AreKeysLone}
-use Rattle.rule_document_ground.proofs.Merging.{AreOne, StandAlone, lone_shapes, lone_start, lone_merge}
+use Rattle.rule_field_groups.specs.in_sets.in_reach.Broken.{brokens_of}
+use Rattle.rule_reach.specs.LoneKeys.{AreKeysLone}
+use Rattle.rule_reach.proofs.Merging.{AreOne, StandAlone, lone_shapes, lone_start, lone_merge}
 use Rattle.rule_merging.specs.Examined.{Breaches}
 use Rattle.rule_merging.specs.Verdict.{lists_examined, StartsOrIsLone, ExaminesOperation}
 use Rattle.rule_merging.specs.Merger.{AreClosed, with_alone}

@@ -1,8 +1,8 @@
 -- Sets without selections select nothing.
 use Rattle.std.proofs.Common.{◌≡◌, None, [], Contains, refl, subst}
 use Rattle.rule_field_groups.proofs.in_definitions.Lists.{not_in_nil}
-use Rattle.rule_field_groups.specs.in_meaning.MeantTree.{MeantSet, meant_set, no_meant, meant_then, MeantDocument}
-use Rattle.rule_field_groups.specs.in_meaning.in_components.Names.{Entries}
+use Rattle.rule_field_groups.specs.in_spec_document.MeantTree.{MeantSet, meant_set, no_meant, meant_then, MeantDocument}
+use Rattle.rule_field_groups.specs.in_spec_document.in_components.Names.{Entries}
 use Rattle.rule_field_groups.specs.in_document_definitions.Selected.{InOperation, StandingField}
 use Rattle.rule_field_groups.specs.in_document_definitions.Reached.{first, next, IsFieldOf}
 use Rattle.rule_field_groups.specs.in_document_definitions.Contents.{content}

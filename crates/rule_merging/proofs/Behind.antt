@@ -6,7 +6,7 @@ use Rattle.graphql_names.specs.Placed.{Place}
 use Rattle.graphql_faults.specs.DetailsTree.{of_document, Telling}
 use Rattle.graphql_faults.specs.DetailsView.{BeginsAs}
 use Rattle.rule_field_groups.specs.in_document_definitions.DocumentFaults.{Broken, OfDocument}
-use Rattle.rule_field_groups.specs.in_document_definitions.Told.{PlacedDocumentFault}
+use Rattle.rule_field_groups.specs.in_document_definitions.PlacedDocumentFaults.{PlacedDocumentFault}
 
 pub breaches_told : (breaches : List (Broken Place)) → map of_document (map OfDocument breaches) ≡ map (λ b. of_document (OfDocument b)) breaches
 breaches_told [] = refl

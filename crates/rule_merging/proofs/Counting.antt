@@ -9,7 +9,7 @@ use Rattle.std.proofs.lemmas.List.Elements.{Contains-append_right, Contains-appe
 use Rattle.graphql_names.specs.Placed.{Place}
 use Rattle.rule_field_groups.proofs.in_definitions.Lists.{not_in_nil, only, Contains-cons, Contains-first}
 use Rattle.rule_cycle_search.specs.Paths.{HasNoRepeat}
-use Rattle.rule_field_groups.specs.in_meaning.MeantTree.{MeantSet, MeantOperation, MeantDocument}
+use Rattle.rule_field_groups.specs.in_spec_document.MeantTree.{MeantSet, MeantOperation, MeantDocument}
 use Rattle.rule_field_groups.specs.in_definitions.Judged.{Judged}
 use Rattle.rule_field_groups.specs.in_document_definitions.DocumentFaults.{Broken}
 use Rattle.rule_field_groups.specs.in_document_definitions.Selected.{StandingField, InOperation}
@@ -21,20 +21,20 @@ use Rattle.rule_field_groups.specs.in_document_definitions.ReadFields.{ReadField
 use Rattle.rule_field_groups.proofs.in_document_definitions.Unplaced.{contains_unmap}
 use Rattle.rule_field_groups.proofs.in_document_definitions.Elsewhere.{content_below, content_starts}
 use Rattle.rule_field_groups.proofs.in_document_definitions.ReadFacts.{read_below, below_read}
-use Rattle.rule_number_lists.specs.NumberLists.{HaveSame, length_above_two}
-use Rattle.rule_number_lists.specs.NumberPairs.{pairs_kept}
-use Rattle.rule_number_lists.specs.declared.pairs.NumberPairs.{NumberPairs}
-use Rattle.rule_number_lists.proofs.Standing.{same_order, same_trans, same_sym, no_repeat_order}
-use Rattle.rule_number_lists.proofs.Few.{squares, no_longer, few, above_two_length, above_two_le, differ_cons, differ_order, from_apart}
-use Rattle.rule_number_lists.proofs.Rows.{kept_once, rows_below, few_in_any_order, kept_few}
+use Rattle.list_interner.specs.NumberLists.{HaveSame, length_above_two}
+use Rattle.list_interner.specs.NumberPairs.{pairs_kept}
+use Rattle.list_interner.specs.declared.pairs.NumberPairs.{NumberPairs}
+use Rattle.list_interner.proofs.Standing.{same_order, same_trans, same_sym, no_repeat_order}
+use Rattle.list_interner.proofs.Few.{squares, no_longer, few, above_two_length, above_two_le, differ_cons, differ_order, from_apart}
+use Rattle.list_interner.proofs.Rows.{kept_once, rows_below, few_in_any_order, kept_few}
 use Rattle.rule_field_groups.specs.in_sets.declared.member.Member.{Member}
 use Rattle.rule_field_groups.specs.in_sets.declared.field_sets.FieldSets.{FieldSets}
 use Rattle.rule_field_groups.specs.Members.{field_of, fields_of, content_of, contents_of}
 use Rattle.rule_field_groups.specs.declared.pass.Pass.{Pass}
 use Rattle.rule_field_groups.specs.declared.pass.Pass.TheVariants.{Shapes, Selections}
 use Rattle.rule_field_groups.specs.Below.{IsMergedIn, IsPartOfMergedIn}
-use Rattle.rule_field_groups.specs.declared.remembered.Remembered.{Remembered}
-use Rattle.rule_field_groups.specs.Remembered.{Kept, looked_in, both_in, IsKnown}
+use Rattle.rule_field_groups.specs.declared.merge_state.MergeState.{MergeState}
+use Rattle.rule_field_groups.specs.MergeState.{Kept, looked_in, both_in, IsKnown}
 use Rattle.rule_field_groups.specs.in_sets.Read.{set_content_at}
 use Rattle.rule_merging.specs.Examined.{SelectsAsMuch, SetsExamined}
 use Rattle.rule_merging.specs.Twos.{IsListOf, are_two}
@@ -341,11 +341,11 @@ pub few_pairs : (p : NumberPairs) (m : ℕ) → ((q : ℕ × ℕ) → Contains (
 few_pairs p m below = kept_few p m below
 
 -- so many pairs of sets were looked at, at most, where so many sets have numbers
-pub few_looked : (w : FieldSets) (r : Remembered) (fields sets : ℕ) → IsKnown fields sets r → 2 * length (looked_in w r) ≤ sets * (sets + 1)
+pub few_looked : (w : FieldSets) (r : MergeState) (fields sets : ℕ) → IsKnown fields sets r → 2 * length (looked_in w r) ≤ sets * (sets + 1)
 few_looked w r fields sets known = omega (arith, few_pairs r.looked sets known.looked, length-map {B = List ReadSet} (pairs_kept r.looked) (λ p. map (set_content_at w) (both_in p)))
 
 -- and so many at most, whatever their numbers are
-pub looked_bounded : (r : Remembered) → length (pairs_kept r.looked) ≤ 2 ^ 126
+pub looked_bounded : (r : MergeState) → length (pairs_kept r.looked) ≤ 2 ^ 126
 looked_bounded r =
     let rows = r.looked.rows in
     let n = length rows.items in

@@ -7,13 +7,12 @@ use Rattle.std.proofs.lemmas.List.{map-append}
 use Rattle.std.proofs.lemmas.List.Elements.{Contains-append_left, Contains-append_right, Contains-append_cases}
 use Rattle.graphql_names.specs.Placed.{Place}
 use Rattle.rule_field_groups.proofs.in_components.Places.{Contains-rest}
-use Rattle.rule_field_groups.specs.in_meaning.MeantTree.{MeantSet, MeantOperation, MeantDocument}
+use Rattle.rule_field_groups.specs.in_spec_document.MeantTree.{MeantSet, MeantOperation, MeantDocument}
 use Rattle.rule_field_groups.specs.in_definitions.Judged.{Judged}
 use Rattle.rule_field_groups.proofs.in_definitions.Lists.{not_in_nil, only, Contains-cons, Contains-first, given_in}
 use Rattle.rule_field_groups.specs.in_document_definitions.DocumentFaults.{Broken}
 use Rattle.rule_field_groups.specs.in_document_definitions.Selected.{StandingField}
 use Rattle.rule_field_groups.specs.in_document_definitions.Contents.{ContentBelow, ContentStarts}
-use Rattle.rule_field_groups.specs.in_document_definitions.Merging.{MergingBreaks}
 use Rattle.rule_field_groups.specs.in_document_definitions.Limits.{chain_bound}
 use Rattle.rule_field_groups.specs.in_document_definitions.PlainFields.{IsSelected}
 use Rattle.rule_field_groups.specs.in_document_definitions.ReadFields.{ReadField, ReadSet, list_read, field_read, fragments_read, ReadBelow, ReadStarts}
@@ -24,13 +23,14 @@ use Rattle.rule_field_groups.proofs.in_document_definitions.Unplaced.{contains_m
 use Rattle.rule_field_groups.proofs.in_document_definitions.SettledFacts.{by_head, begun, moved, ended}
 use Rattle.rule_field_groups.proofs.in_document_definitions.GoingFacts.{going_start, going_below, end_start, end_below}
 use Rattle.rule_field_groups.proofs.in_document_definitions.Merges.{going_breaks, bound_passed}
-use Rattle.rule_number_lists.specs.NumberLists.{HaveSame}
-use Rattle.rule_number_lists.proofs.Standing.{same_sym, same_order}
+use Rattle.list_interner.specs.NumberLists.{HaveSame}
+use Rattle.list_interner.proofs.Standing.{same_sym, same_order}
 use Rattle.rule_field_groups.specs.in_sets.declared.member.Member.{Member}
 use Rattle.rule_field_groups.specs.in_sets.declared.field_sets.FieldSets.{FieldSets}
 use Rattle.rule_field_groups.specs.declared.pass.Pass.{Pass}
 use Rattle.rule_field_groups.specs.declared.pass.Pass.TheVariants.{Shapes, Selections}
 use Rattle.rule_field_groups.specs.Members.{field_of, fields_of, contents_of, meant_sets, read_sets, AreMembersOf}
+use Rattle.rule_field_groups.specs.LaterField.{BreaksAtLater}
 use Rattle.rule_field_groups.specs.Passes.{Together, Agree, Conflict, ReadTogether, ReadAgree, TellsEach}
 use Rattle.rule_merging.specs.Paired.{IsPairDone}
 use Rattle.rule_field_groups.specs.Under.{Sets, AreOf, HaveBoth, AreListsBelow, IsGroupOf}
@@ -38,7 +38,7 @@ use Rattle.rule_field_groups.specs.Below.{IsMergedIn, IsPartOfMergedIn}
 use Rattle.rule_field_groups.specs.declared.groups.KeyGroup.{KeyGroup}
 use Rattle.rule_field_groups.specs.Grouped.{ArePartsOf}
 use Rattle.rule_field_groups.specs.KeyGroups.{parts_of, parts_in, lists_in_group}
-use Rattle.rule_field_groups.specs.Remembered.{Kept, nothing_kept, HasLooked, Remembers, Expands}
+use Rattle.rule_field_groups.specs.MergeState.{Kept, nothing_kept, HasLooked, Remembers, Expands}
 use Rattle.rule_field_groups.specs.Pairs.{each_with, AreTwosOf}
 use Rattle.rule_merging.specs.Examined.{all_read, StandTogether, ReadOwn, ReadSelected, ReadSpreads, AreLookedAt, IsLeft, AllStand, PairsAreDone, AreSettled, AreUnderWay, HaveFields, IsFresh, GroupsExamined, ListExamined, SetsExamined, AllExamined}
 use Rattle.rule_field_groups.proofs.Counts.{flat_push}
@@ -586,15 +586,15 @@ module _ (pass : Pass) (s : Judged) (d : MeantDocument Place) where
     }
 
     breaks : (p : Pass) (list : List (StandingField Place)) (f g : StandingField Place) (fault : Broken Place) → IsGoing (ContentBelow d) (ContentStarts d o) (Together p s) list
-        → Contains list f → Contains list g → Together p s f g → Conflict p s fault f g → MergingBreaks s d o fault
-    breaks Shapes list f g fault going a b t (differ, is) = subst (MergingBreaks s d o) (sym is) ((going_breaks s d o list f g a b).0 going t differ)
-    breaks Selections list f g fault going a b t (inl (differ, is)) = subst (MergingBreaks s d o) (sym is) ((going_breaks s d o list f g a b).1.0 going t differ)
-    breaks Selections list f g fault going a b t (inr (n, (differ, is))) = subst (MergingBreaks s d o) (sym is) ((going_breaks s d o list f g a b).1.1 going t n differ)
+        → Contains list f → Contains list g → Together p s f g → Conflict p s fault f g → BreaksAtLater s d o fault
+    breaks Shapes list f g fault going a b t (differ, (is, later)) = subst (BreaksAtLater s d o) (sym is) ((going_breaks s d o list f g a b).0 going t differ, later)
+    breaks Selections list f g fault going a b t (inl (differ, (is, later))) = subst (BreaksAtLater s d o) (sym is) ((going_breaks s d o list f g a b).1.0 going t differ, later)
+    breaks Selections list f g fault going a b t (inr (n, (differ, (is, later)))) = subst (BreaksAtLater s d o) (sym is) ((going_breaks s d o list f g a b).1.1 going t n differ, later)
 
     -- as far as levels were examined
     pub record SoFar (start now : Kept) (length : ℕ) (added : List (Broken Place)) (level : List Sets) : Type 0 where
       pub at : AtLevel (length + 1) level
-      pub right : (fault : Broken Place) → Contains added fault → MergingBreaks s d o fault
+      pub right : (fault : Broken Place) → Contains added fault → BreaksAtLater s d o fault
       pub settled : added ≡ [] → AreSettled d pass s start → AreUnderWay d pass s o [] (all_read level) now
 
     -- what starts is what the first set selects

@@ -3,7 +3,7 @@ use Rattle.std.proofs.Common.{◌≡◌, ◌⊎◌, ◌∙◌, ◌==◌, Bool, t
 use Rattle.std.proofs.lemmas.Bool.Decides.{Decides-eqb}
 use Rattle.graphql_names.specs.Placed.{Place}
 use Rattle.rule_field_groups.proofs.in_definitions.Lists.{only, Contains-cons, Contains-first}
-use Rattle.rule_field_groups.specs.in_meaning.MeantTree.{MeantDocument}
+use Rattle.rule_field_groups.specs.in_spec_document.MeantTree.{MeantDocument}
 use Rattle.rule_field_groups.specs.in_definitions.Judged.{Judged}
 use Rattle.rule_field_groups.specs.in_document_definitions.DocumentFaults.{Broken}
 use Rattle.rule_field_groups.specs.in_document_definitions.Selected.{StandingField}

@@ -14,3 +14,4 @@ pub mod Operating
 pub mod Alone
 pub mod Behind
 pub mod Verdicts
+pub mod Agreeing

@@ -4,11 +4,11 @@ use Rattle.std.specs.Prelude.{Some}
 use Rattle.std.specs.List.{AllZip}
 use Rattle.graphql_names.specs.Placed.{Place}
 use Rattle.rule_field_groups.proofs.in_components.Places.{Contains-rest}
-use Rattle.rule_field_groups.specs.in_meaning.MeantTree.{MeantDocument}
+use Rattle.rule_field_groups.specs.in_spec_document.MeantTree.{MeantDocument}
 use Rattle.rule_field_groups.proofs.in_definitions.Lists.{not_in_nil, Contains-cons, Contains-first}
 use Rattle.rule_field_groups.specs.in_document_definitions.ReadFields.{list_read}
 use Rattle.rule_field_groups.proofs.in_document_definitions.Unplaced.{contains_map, contains_unmap}
-use Rattle.rule_field_groups.specs.in_sets.in_ground.Fields.{meant_fragments}
+use Rattle.rule_field_groups.specs.in_sets.in_reach.Fields.{meant_fragments}
 use Rattle.rule_field_groups.specs.in_sets.declared.field_sets.FieldSets.{FieldSets}
 use Rattle.rule_field_groups.specs.in_sets.declared.member.SetNode.{SetNode}
 use Rattle.rule_field_groups.specs.in_sets.Nodes.{AreSets, HasAllStarts, set_nodes, fragment_nodes}

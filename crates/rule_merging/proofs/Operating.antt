@@ -8,15 +8,15 @@ use Rattle.graphql_names.specs.Node.{content}
 use Rattle.graphql_names.specs.declared.node.Node.{Node}
 use Rattle.rule_field_groups.specs.in_typed_selections.TypedTree.{TypedSet, typed_set_tree}
 use Rattle.document_typed_operations.specs.declared.operation.Operation.{Operation}
-use Rattle.rule_field_groups.specs.in_meaning.MeantTree.{MeantSet, MeantOperation, MeantDocument, meant_of_set}
+use Rattle.rule_field_groups.specs.in_spec_document.MeantTree.{MeantSet, MeantOperation, MeantDocument, meant_of_set}
 use Rattle.rule_field_groups.specs.in_sets.in_schema.SchemaOf.{schema_tree}
-use Rattle.rule_field_groups.specs.in_sets.in_ground.in_typed_operations.DocumentView.{operation_meant}
-use Rattle.rule_field_groups.specs.in_sets.in_ground.Fields.{meant_fragments}
+use Rattle.rule_field_groups.specs.in_sets.in_reach.in_typed_operations.DocumentView.{operation_meant}
+use Rattle.rule_field_groups.specs.in_sets.in_reach.Fields.{meant_fragments}
 use Rattle.rule_field_groups.specs.in_definitions.Judged.{Judged, judged}
 use Rattle.rule_field_groups.specs.in_document_definitions.DocumentFaults.{Broken}
 use Rattle.rule_field_groups.proofs.in_document_definitions.ReadFacts.{read_fields_merge}
 use Rattle.rule_field_groups.specs.in_sets.Nodes.{AreSets, SetsGrow, HasAllStarts, IsNodeOf, set_nodes}
-use Rattle.rule_number_lists.specs.NumberPairs.{pairs_kept}
+use Rattle.list_interner.specs.NumberPairs.{pairs_kept}
 use Rattle.rule_field_groups.specs.in_sets.Read.{set_at, set_content_at}
 use Rattle.rule_field_groups.specs.in_sets.declared.field_sets.FieldSets.{FieldSets}
 use Rattle.rule_field_groups.proofs.in_sets.Kept.{sets_grow_same}
@@ -25,10 +25,10 @@ use Rattle.rule_field_groups.specs.declared.pass.Pass.{Pass}
 use Rattle.rule_field_groups.specs.declared.pass.Pass.TheVariants.{Shapes, Selections}
 use Rattle.rule_merging.specs.declared.examination.Examination.{Examination}
 use Rattle.rule_merging.specs.declared.operation.Examined.{Examined}
-use Rattle.rule_field_groups.specs.declared.remembered.Remembered.{Remembered}
+use Rattle.rule_field_groups.specs.declared.merge_state.MergeState.{MergeState}
 use Rattle.rule_field_groups.specs.Paid.{Account}
 use Rattle.rule_merging.specs.Counted.{AreListed, Grows}
-use Rattle.rule_field_groups.specs.Remembered.{Kept, both_in, remembered, looked_in, account_of, kept_of}
+use Rattle.rule_field_groups.specs.MergeState.{Kept, both_in, remembered, looked_in, account_of, kept_of}
 use Rattle.rule_merging.specs.Examined.{AreSettled, AllExamined, HasSets, schema_of, document_of, sets_of}
 use Rattle.rule_merging.specs.Verdict.{AreSetsFor, Begins, OnlyGrow, OperationExamined, IsCounted, IsCountedIn, AreKnown, LooksAtFew, sets_numbered, account_in, without_pairs}
 use Rattle.rule_merging.proofs.Counting.{only_grow, shapes_counted, few_pairs}
@@ -108,7 +108,7 @@ begun_grows old mid new begun grow = subst (λ (a : Account). OnlyGrow a.lists a
 pub nothing_grows : (a : Account) → OnlyGrow a.lists a.comparisons a.lists a.comparisons
 nothing_grows a = (λ list c. c, omega arith)
 
-module _ (d : MeantDocument Place) (o : MeantOperation Place) (old mid : Examined) (begun : Begins old mid) (start : MeantSet Place) (is : o.set ≡ start) (new : Remembered)
+module _ (d : MeantDocument Place) (o : MeantOperation Place) (old mid : Examined) (begun : Begins old mid) (start : MeantSet Place) (is : o.set ≡ start) (new : MergeState)
     (grows : Grows d (λ os. AreListed d os ((start ∷ []) ∷ [])) Shapes (account_in mid) (account_of mid.sets new)) where
   -- then lists come to those that were examined for shapes
   pub then_counted : ((os : List (MeantOperation Place)) → Contains os o → AreListed d os ((start ∷ []) ∷ []))
@@ -140,10 +140,10 @@ either_left (Ok b) left too P is p = subst P (sym is) p
 either_left (Err e) left too P is p = tt
 
 -- what was examined after them
-abbrev pub after : Examined → Remembered → Remembered → Examined
+abbrev pub after : Examined → MergeState → MergeState → Examined
 after mid shapes selections = record mid { shapes = shapes; selections = selections }
 
-module _ (s : Judged) (d : MeantDocument Place) (o : MeantOperation Place) (old mid : Examined) (begun : Begins old mid) (shapes selections : Remembered) where
+module _ (s : Judged) (d : MeantDocument Place) (o : MeantOperation Place) (old mid : Examined) (begun : Begins old mid) (shapes selections : MergeState) where
   both_examined : (one two : List (Broken Place)) (left too : Bool) → AllExamined Shapes s d o (kept_of mid.sets mid.shapes) (kept_of mid.sets shapes) one left
       → AllExamined Selections s d o (kept_of mid.sets mid.selections) (kept_of mid.sets selections) two too → OperationExamined s d o old (after mid shapes selections) (one ++ two) (left || too)
   both_examined one two left too first later = record {

@@ -6,7 +6,7 @@ use Rattle.std.proofs.lemmas.List.Elements.{Contains-append_left, Contains-appen
 use Rattle.graphql_names.specs.Placed.{Place}
 use Rattle.rule_field_groups.proofs.in_components.Places.{Contains-rest}
 use Rattle.rule_field_groups.proofs.in_definitions.Lists.{not_in_nil, only, Contains-cons, Contains-first, mapped_some}
-use Rattle.rule_field_groups.specs.in_meaning.MeantTree.{MeantSet, meant_set, no_meant, meant_then, MeantFragment, MeantOperation, MeantDocument}
+use Rattle.rule_field_groups.specs.in_spec_document.MeantTree.{MeantSet, meant_set, no_meant, meant_then, MeantFragment, MeantOperation, MeantDocument}
 use Rattle.rule_field_groups.specs.in_definitions.Judged.{Judged}
 use Rattle.rule_field_groups.specs.in_definitions.in_schema_types.Addresses.{under}
 use Rattle.rule_field_groups.specs.in_document_definitions.DocumentFaults.{Broken}
@@ -16,15 +16,15 @@ use Rattle.rule_field_groups.specs.in_document_definitions.ReadFields.{ReadField
 use Rattle.rule_field_groups.specs.in_document_definitions.PlainFields.{IsSelected}
 use Rattle.rule_field_groups.specs.in_document_definitions.Settled.{StandIn, IsUnderWay}
 use Rattle.rule_field_groups.proofs.in_document_definitions.Unplaced.{contains_map, contains_unmap, under_same}
-use Rattle.rule_number_lists.specs.NumberLists.{HaveSame}
-use Rattle.rule_number_lists.proofs.Standing.{same_trans, same_sym}
+use Rattle.list_interner.specs.NumberLists.{HaveSame}
+use Rattle.list_interner.proofs.Standing.{same_trans, same_sym}
 use Rattle.rule_field_groups.specs.in_sets.declared.member.Member.{Member}
 use Rattle.rule_field_groups.specs.declared.pass.Pass.{Pass}
 use Rattle.rule_field_groups.specs.declared.pass.Pass.TheVariants.{Shapes, Selections}
 use Rattle.rule_field_groups.specs.Members.{field_of, content_of, read_sets}
 use Rattle.rule_merging.specs.Paired.{LeadsTo, Selects}
 use Rattle.rule_field_groups.specs.Passes.{ReadTogether, ReadAgree}
-use Rattle.rule_field_groups.specs.Remembered.{Kept}
+use Rattle.rule_field_groups.specs.MergeState.{Kept}
 use Rattle.rule_field_groups.specs.Pairs.{with_each, AreTwosOf, Looks, each_with}
 use Rattle.rule_merging.specs.Examined.{Sets, all_read, StandTogether, ReadOwn, ReadSelected, ReadSpreads, AreLookedAt, IsLeft, PairsAreDone, AreUnderWay, TellsIn, ComeFrom, SelectsAsMuch, SetsExamined, PairExamined, PairsExamined, TwosExamined}
 use Rattle.rule_merging.specs.Counted.{IsLast, AreListed}

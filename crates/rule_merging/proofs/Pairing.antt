@@ -6,11 +6,11 @@ use Rattle.std.proofs.lemmas.List.Elements.{Contains-append_left, Contains-appen
 use Rattle.graphql_names.specs.Placed.{Place}
 use Rattle.rule_field_groups.proofs.in_components.Places.{Contains-rest}
 use Rattle.rule_field_groups.proofs.in_definitions.Lists.{not_in_nil, only, Contains-cons, Contains-first}
-use Rattle.rule_field_groups.specs.in_meaning.MeantTree.{MeantDocument}
+use Rattle.rule_field_groups.specs.in_spec_document.MeantTree.{MeantDocument}
 use Rattle.rule_field_groups.specs.in_definitions.Judged.{Judged}
 use Rattle.rule_field_groups.specs.in_document_definitions.DocumentFaults.{Broken}
 use Rattle.rule_field_groups.specs.in_document_definitions.Selected.{StandingField}
-use Rattle.rule_field_groups.specs.in_sets.in_ground.Broken.{broken_of, brokens_of}
+use Rattle.rule_field_groups.specs.in_sets.in_reach.Broken.{broken_of, brokens_of}
 use Rattle.rule_field_groups.specs.Members.{field_of, fields_of, content_of, contents_of_two, contents_of, read_sets, AreMembersOf}
 use Rattle.rule_field_groups.specs.in_sets.declared.member.Member.{Member}
 use Rattle.rule_field_groups.specs.in_sets.declared.field_sets.FieldSets.{FieldSets}
@@ -18,10 +18,10 @@ use Rattle.rule_field_groups.specs.in_sets.Nodes.{HasMember}
 use Rattle.rule_field_groups.specs.declared.pass.Pass.{Pass}
 use Rattle.rule_field_groups.specs.Passes.{Together}
 use Rattle.rule_field_groups.proofs.Lists.{taken_more}
-use Rattle.rule_number_lists.specs.NumberLists.{HaveSame}
+use Rattle.list_interner.specs.NumberLists.{HaveSame}
 use Rattle.rule_field_groups.specs.in_document_definitions.ReadFields.{ReadField, ReadSet}
 use Rattle.rule_field_groups.specs.in_document_definitions.Settled.{StandIn}
-use Rattle.rule_field_groups.specs.Remembered.{Kept, Remembers}
+use Rattle.rule_field_groups.specs.MergeState.{Kept, Remembers}
 use Rattle.rule_merging.specs.Examined.{Sets, Breaches, all_read, IsFresh, ListExamined}
 use Rattle.rule_merging.specs.Twos.{TwoFields, are_two, IsListOf, IsListOfTwo, both_of, GoTogether, FieldsPaired}
 use Rattle.rule_merging.proofs.Examining.{left_empty, right_empty, more_there, one_there, there_before, stand_more, left_wider, list_fresh, HasMore}

@@ -1,8 +1,8 @@
 -- Fields and what is read of them: both go together and agree alike in each pass, and sets select alike.
 use Rattle.std.proofs.Common.{◌≡◌, ◌↔◌, None, List, [], refl, sym, subst}
 use Rattle.graphql_names.specs.Placed.{Place}
-use Rattle.rule_field_groups.specs.in_meaning.MeantTree.{MeantSet, meant_set, no_meant, meant_then, MeantDocument}
-use Rattle.rule_field_groups.specs.in_meaning.in_components.Names.{Entries}
+use Rattle.rule_field_groups.specs.in_spec_document.MeantTree.{MeantSet, meant_set, no_meant, meant_then, MeantDocument}
+use Rattle.rule_field_groups.specs.in_spec_document.in_components.Names.{Entries}
 use Rattle.rule_field_groups.specs.in_definitions.Judged.{Judged}
 use Rattle.rule_field_groups.specs.in_document_definitions.Selected.{InOperation, StandingField}
 use Rattle.rule_field_groups.specs.in_document_definitions.Contents.{content}

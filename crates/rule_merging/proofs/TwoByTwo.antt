@@ -3,7 +3,7 @@ use Rattle.std.proofs.Common.{◌≡◌, ◌∙◌, List, [], ◌∷◌, ◌++�
 use Rattle.std.proofs.lemmas.List.Elements.{Contains-append_left, Contains-append_right}
 use Rattle.graphql_names.specs.Placed.{Place}
 use Rattle.rule_field_groups.proofs.in_definitions.Lists.{only, Contains-cons, Contains-first}
-use Rattle.rule_field_groups.specs.in_meaning.MeantTree.{MeantOperation, MeantDocument}
+use Rattle.rule_field_groups.specs.in_spec_document.MeantTree.{MeantOperation, MeantDocument}
 use Rattle.rule_field_groups.specs.in_definitions.Judged.{Judged}
 use Rattle.rule_field_groups.specs.in_document_definitions.DocumentFaults.{Broken}
 use Rattle.rule_field_groups.specs.in_document_definitions.Selected.{StandingField}
@@ -16,7 +16,7 @@ use Rattle.rule_field_groups.specs.declared.pass.Pass.{Pass}
 use Rattle.rule_field_groups.specs.Members.{field_of, fields_of, content_of, read_sets}
 use Rattle.rule_field_groups.specs.Below.{IsMergedIn}
 use Rattle.rule_field_groups.specs.Passes.{ReadTogether}
-use Rattle.rule_field_groups.specs.Remembered.{Kept}
+use Rattle.rule_field_groups.specs.MergeState.{Kept}
 use Rattle.rule_merging.specs.Counted.{IsLast, AreListed}
 use Rattle.rule_merging.specs.Examined.{Sets, all_read, AreLookedAt, ReadSelected, IsLeft, AreUnderWay, AllStand, SetsExamined}
 use Rattle.rule_merging.specs.Twos.{are_of, both_of, FieldsPaired}

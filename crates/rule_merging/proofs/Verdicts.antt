@@ -5,12 +5,12 @@ use Rattle.std.proofs.lemmas.List.{map-append}
 use Rattle.std.proofs.lemmas.List.Elements.{Contains-append_cases}
 use Rattle.std.specs.Prelude.{IsTrue}
 use Rattle.graphql_names.specs.Placed.{Place}
-use Rattle.rule_field_groups.specs.in_meaning.MeantTree.{MeantOperation, MeantDocument}
+use Rattle.rule_field_groups.specs.in_spec_document.MeantTree.{MeantOperation, MeantDocument}
 use Rattle.rule_field_groups.proofs.in_definitions.Lists.{not_in_nil, only, Contains-first}
 use Rattle.rule_field_groups.specs.in_definitions.Judged.{Judged}
 use Rattle.rule_field_groups.specs.in_document_definitions.DocumentFaults.{Broken, OfDocument, OfLimit}
 use Rattle.rule_field_groups.specs.in_document_definitions.Merging.{FieldsMerge}
-use Rattle.rule_field_groups.specs.in_document_definitions.Told.{PlacedDocumentFault}
+use Rattle.rule_field_groups.specs.in_document_definitions.PlacedDocumentFaults.{PlacedDocumentFault}
 use Rattle.rule_field_groups.proofs.in_document_definitions.MergingFacts.{merging_breaks_nothing}
 use Rattle.rule_field_groups.proofs.in_document_definitions.Stable.{merge_if_nothing_breaks}
 use Rattle.rule_field_groups.proofs.in_document_definitions.Unplaced.{contains_unmap}
@@ -18,7 +18,7 @@ use Rattle.rule_merging.specs.Examined.{Breaches}
 use Rattle.rule_field_groups.specs.in_document_definitions.ReadFields.{ReadField}
 use Rattle.rule_merging.specs.Verdict.{lists_examined, ExaminesOperation}
 use Rattle.rule_merging.specs.declared.operation.Examined.{Examined}
-use Rattle.rule_field_groups.specs.in_sets.in_ground.Broken.{brokens_of}
+use Rattle.rule_field_groups.specs.in_sets.in_reach.Broken.{brokens_of}
 use Rattle.graphql_faults.specs.DetailsTree.{of_document, Telling}
 use Rattle.rule_merging.specs.Merged.{MergingFailsAt, AreSettledIf, limit_told, conflicts_told}
 use Rattle.rule_merging.specs.Merger.{AreClosed, with_alone}

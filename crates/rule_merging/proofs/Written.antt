@@ -4,7 +4,7 @@ use Rattle.std.specs.List.{cons_option}
 use Rattle.std.specs.Option.{option_map}
 use Rattle.std.proofs.lemmas.List.Elements.{Contains-append_left, Contains-append_right}
 use Rattle.graphql_names.specs.Placed.{Place}
-use Rattle.rule_field_groups.specs.in_meaning.MeantTree.{MeantOperation, MeantFragment, MeantDocument}
+use Rattle.rule_field_groups.specs.in_spec_document.MeantTree.{MeantOperation, MeantFragment, MeantDocument}
 use Rattle.rule_field_groups.proofs.in_definitions.Lists.{Contains-first}
 use Rattle.rule_field_groups.proofs.in_definitions.Lookups.{under_given}
 use Rattle.rule_cycle_search.proofs.Lists.{given_in}

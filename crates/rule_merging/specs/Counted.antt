@@ -4,8 +4,8 @@ use Rattle.std.specs.List.{sum}
 use Rattle.std.specs.List.Sorted.{IsPermutation}
 use Rattle.graphql_names.specs.Placed.{Place}
 use Rattle.rule_cycle_search.specs.Paths.{HasNoRepeat}
-use Rattle.rule_number_lists.specs.NumberLists.{HaveSame, length_above_two}
-use Rattle.rule_field_groups.specs.in_meaning.MeantTree.{MeantSet, MeantOperation, MeantDocument}
+use Rattle.list_interner.specs.NumberLists.{HaveSame, length_above_two}
+use Rattle.rule_field_groups.specs.in_spec_document.MeantTree.{MeantSet, MeantOperation, MeantDocument}
 use Rattle.rule_field_groups.specs.in_document_definitions.Selected.{StandingField}
 use Rattle.rule_field_groups.specs.in_document_definitions.Chains.{Chain}
 use Rattle.rule_field_groups.specs.in_document_definitions.Merging.{Below, Starts}
@@ -20,17 +20,17 @@ use Rattle.rule_field_groups.specs.declared.pass.Pass.{Pass}
 abbrev pub DifferInMembers : List (List ReadField) → Type 0
 DifferInMembers lists = (i j : ℕ) (a b : List ReadField) → slice_get lists i ≡ Some a → slice_get lists j ≡ Some b → HaveSame a b → i ≡ j
 
--- none of these lists has equal members
+-- none of these lists has a member twice
 abbrev pub AreApart : List (List ReadField) → Type 0
 AreApart lists = (list : List ReadField) → Contains lists list → HasNoRepeat list
 
--- so often shapes are compared, at most, for so many fields
+-- how often shapes are compared, at most, for so many fields
 abbrev pub most_comparisons : ℕ → ℕ
 most_comparisons n = n * n + most_members n
 
 module _ (d : MeantDocument Place) where
   module _ (os : List (MeantOperation Place)) where
-    -- the content of the last field of a chain of one of these operations, in the document
+    -- x is the content of the last field of a chain of one of these operations, in the document
     abbrev pub IsLast : ReadField → Type 0
     IsLast x = (o : MeantOperation Place) × ((c : List (StandingField Place)) × ((f : StandingField Place) × (Contains os o
         × (Chain (Below d) (Starts d o) (c ++ f ∷ []) × (field_read f ≡ x)))))
@@ -38,33 +38,33 @@ module _ (d : MeantDocument Place) where
     abbrev pub AreLast : List ReadField → Type 0
     AreLast list = (x : ReadField) → Contains list x → IsLast x
 
-    -- a list without equal members, all of them last fields of chains
+    -- the list has no member twice, and all its members are contents of last fields of chains
     pub record IsListed (list : List ReadField) : Type 0 where
       pub apart : HasNoRepeat list
       pub last : AreLast list
 
-    -- whatever one of these lists of sets selects has the content of a last field of a chain
+    -- what one of these lists of sets selects has the content of a last field of a chain
     abbrev pub AreListed : List (List (MeantSet Place)) → Type 0
     AreListed lists = (sets : List (MeantSet Place)) → Contains lists sets → (x : StandingField Place) → IsSelected d sets x → IsLast (field_read x)
 
-    -- shapes were compared at most as often as the lists that were examined are long in all; no two of these have the same members,
-    -- each is without equal members, and all members are last fields of chains
+    -- shapes were compared at most as often as the examined lists have members in all; no two of these have the same members, none has a
+    -- member twice, and all members are contents of last fields of chains
     pub record IsCountedBy (lists : List (List ReadField)) (count : ℕ) : Type 0 where
       pub bound : count ≤ sum (map length lists)
       pub different : DifferInMembers lists
       pub listed : (list : List ReadField) → Contains lists list → IsListed list
 
-    -- what was spent is at least as much as the lists of more than two have members, and at most what the fields pay that were met:
-    -- different ones, all of them last fields of chains
+    -- at least as much was spent as the lists of more than two have members, and at most what the fields pay that were met: these are
+    -- different contents, all of them of last fields of chains
     pub record IsPaidBy (lists : List (List ReadField)) (met : List ReadField) (spent : ℕ) : Type 0 where
       pub paid : sum (map length_above_two lists) ≤ spent
       pub within : spent ≤ most_members (length met)
       pub once : HasNoRepeat met
       pub last : AreLast met
 
-  -- to the lists that were examined come these, in whatever order they stand, without equal members, and none has the same members as another; shapes are compared
-  -- at most as often as they are long in all, and the count never falls. Those of more than two are paid. Where it is Given, they are of
-  -- last fields of chains of the operations, and so are the fields that are met
+  -- new lists are added to those that were examined, in any order: none has a member twice, and no two of all lists have the same members, if that was so
+  -- before; shapes are compared at most as often as the new lists have members in all, and the count never falls. Those of more than two are paid. For
+  -- operations that are Given, their members, and the fields that are met, are contents of last fields of chains
   pub record Grows (Given : List (MeantOperation Place) → Type 0) (pass : Pass) (old new : Account) : Type 0 where
     pub added : List (List ReadField)
     pub is : IsPermutation (added ++ old.lists) new.lists

@@ -1,6 +1,6 @@
 //! The examination of lists, level by level.
 ghost use Rattle.std.specs.Prelude.{◌≡◌, ◌≤◌, ◌+◌, ◌∷◌, [], map, IsTrue, IfOk, OnOk};
-ghost use Rattle.rule_number_lists.specs.NumberRows.{rows_of};
+ghost use Rattle.list_interner.specs.NumberRows.{rows_of};
 ghost use Rattle.rule_field_groups.specs.in_sets.Read.{set_at};
 ghost use Rattle.rule_field_groups.specs.Members.{fields_of, meant_sets, AreMembersOf};
 ghost use Rattle.rule_field_groups.specs.Below.{IsMergedIn};
@@ -12,8 +12,8 @@ ghost use Rattle.rule_merging.specs.OfProgram.{Comes, ExaminesLevel, ExaminesFro
 
 use document_typed_operations::ExecutableDocument;
 use rule_field_groups::{
-    Breach, FieldSets, KeyGroup, Member, MergedList, NumberLists, NumberRows, NumberSet, Pass,
-    Remembered, Schema, Toll, check_key_group, groups_of, merged_list, push_lists_below,
+    Breach, FieldSets, KeyGroup, Member, MergeState, MergedList, NumberLists, NumberRows,
+    NumberSet, Pass, Schema, Toll, check_key_group, groups_of, merged_list, push_lists_below,
 };
 use std::alloc::{AllocError, Global};
 use std::mem::replace;
@@ -31,7 +31,7 @@ pub(crate) struct Examination<'a, 'doc> {
     pub(crate) sets: &'a FieldSets<'doc>,
 }
 
-/// A level of one list, of this set alone.
+/// A level of one list, which has this set alone.
 fn first_level(alloc: Global, start: usize) -> Result<NumberRows, AllocError>
     ensures { IfOk result (λ level. rows_of level ≡ (start ∷ []) ∷ []) }
 {
@@ -40,7 +40,7 @@ fn first_level(alloc: Global, start: usize) -> Result<NumberRows, AllocError>
     Ok(level)
 }
 
-/// Whether a list is whole, with so few fields that these are compared two by two rather than so many sets.
+/// Whether a list is whole, and has so few fields that comparing these two by two is better than comparing so many sets.
 fn has_few(list: &MergedList<'_>, sets: usize) -> bool
     ensures { IsTrue result → IsTrue list.now.is_whole }
 {
@@ -48,7 +48,7 @@ fn has_few(list: &MergedList<'_>, sets: usize) -> bool
 }
 
 impl<'doc> Examination<'_, 'doc> {
-    /// Compares the fields of one key, and adds the lists of sets below them.
+    /// Compares the fields of one key, and adds the lists of their sets.
     fn examine_group(
         &self,
         group: &KeyGroup<'doc>,
@@ -67,7 +67,7 @@ impl<'doc> Examination<'_, 'doc> {
         push_lists_below(alloc, self.sets, group, next)
     }
 
-    /// Examines a list: compares the fields of each group, and adds the sets below the groups.
+    /// Examines a list: compares the fields of each group, and adds the lists of their sets.
     fn examine_list(
         &self,
         list: &[Member<'doc>],
@@ -88,13 +88,13 @@ impl<'doc> Examination<'_, 'doc> {
         Ok(())
     }
 
-    /// Examines what some sets select where a list of it is not paid: two by two, the fields where they are few for so many sets, or
-    /// else the sets.
+    /// Examines what some sets select, if a list of it is not paid: two by two the fields, if they are few for so many sets, or
+    /// otherwise the sets.
     fn examine_unpaid(
         &self,
         nodes: &[usize],
         list: &MergedList<'doc>,
-        examined: &mut Remembered,
+        examined: &mut MergeState,
         breaches: &mut Vec<Breach>,
     ) -> Result<(), AllocError>
         requires sets { HasSets self.now }
@@ -109,12 +109,12 @@ impl<'doc> Examination<'_, 'doc> {
         self.examine_each(&list.members, &list.members, examined, breaches)
     }
 
-    /// Examines what some sets select: all of it, unless a list with the same contents was examined before; or where that is not
+    /// Examines what some sets select: all of it, unless a list with the same contents was examined before; or, if that is not
     /// paid, what each two of them select.
     fn examine_paid(
         &self,
         nodes: &[usize],
-        examined: &mut Remembered,
+        examined: &mut MergeState,
         breaches: &mut Vec<Breach>,
     ) -> Result<(), AllocError>
         requires sets { HasSets self.now }
@@ -136,11 +136,11 @@ impl<'doc> Examination<'_, 'doc> {
         }
     }
 
-    /// Examines what some sets select, unless this was looked at before. What is skipped is remembered by its pairs alone.
+    /// Examines what some sets select, unless this was looked at before. What is skipped is remembered only by its pairs.
     fn examine_once(
         &self,
         nodes: &[usize],
-        examined: &mut Remembered,
+        examined: &mut MergeState,
         breaches: &mut Vec<Breach>,
     ) -> Result<(), AllocError>
         requires sets { HasSets self.now }
@@ -150,21 +150,21 @@ impl<'doc> Examination<'_, 'doc> {
         if examined.skips(nodes) {
             return self.examine_twos(nodes, examined, breaches);
         }
-        // the lists are apart while this one is examined: it is theirs only when what it selects stands
+        // the lists are put back after this one is examined: only then is what it selects in the examined lists
         let alloc = *breaches.allocator();
         let mut expanded = replace(&mut examined.expanded, NumberLists::new(alloc));
-        if Remembered::expand(&mut expanded, alloc, self.sets, nodes)? {
+        if MergeState::expand(&mut expanded, alloc, self.sets, nodes)? {
             self.examine_paid(nodes, examined, breaches)?;
         }
         examined.expanded = expanded;
         Ok(())
     }
 
-    /// Examines the lists of one level. The lists of the next one are given.
+    /// Examines the lists of one level. Returns the lists of the next one.
     fn examine_level(
         &self,
         level: &NumberRows,
-        examined: &mut Remembered,
+        examined: &mut MergeState,
         breaches: &mut Vec<Breach>,
     ) -> Result<NumberRows, AllocError>
         requires sets { HasSets self.now }
@@ -202,7 +202,7 @@ impl<'doc> Examination<'_, 'doc> {
         Err(AllocError)
     }
 
-    /// Whether one of the lists of sets selects a field. What is too much to be counted is told as if memory did not suffice.
+    /// Whether one of the lists of sets selects a field. If there is too much to count, it fails as if memory were refused.
     fn have_fields(&self, alloc: Global, level: &NumberRows) -> Result<bool, AllocError>
         requires sets { HasSets self.now }
         ensures { IfOk result (λ some. HaveFields (document_of self.now) some (sets_in (sets_of self.now) level.now)) }
@@ -221,7 +221,7 @@ impl<'doc> Examination<'_, 'doc> {
     pub(crate) fn examine_all(
         &self,
         start: usize,
-        examined: &mut Remembered,
+        examined: &mut MergeState,
         breaches: &mut Vec<Breach>,
     ) -> Result<bool, AllocError>
         requires sets { HasSets self.now }

@@ -2,10 +2,10 @@
 ghost use Rattle.std.specs.Prelude.{◌≡◌, ◌↔◌, ◌++◌, [], false, map, IsTrue, OnOk, OnErr};
 ghost use Rattle.graphql_faults.specs.DetailsTree.{of_document};
 ghost use Rattle.graphql_faults.specs.DetailsView.{diagnostics_of, BeginsAs};
-ghost use Rattle.rule_field_groups.specs.in_sets.in_ground.Broken.{brokens_of};
+ghost use Rattle.rule_field_groups.specs.in_sets.in_reach.Broken.{brokens_of};
 ghost use Rattle.rule_field_groups.specs.in_definitions.Judged.{judged};
 ghost use Rattle.rule_field_groups.specs.in_sets.in_schema.SchemaOf.{schema_tree};
-ghost use Rattle.rule_field_groups.specs.in_sets.in_ground.in_typed_operations.DocumentView.{document_meant, operation_meant};
+ghost use Rattle.rule_field_groups.specs.in_sets.in_reach.in_typed_operations.DocumentView.{document_meant, operation_meant};
 ghost use Rattle.rule_merging.specs.Merged.{AreSettledIf, limit_told, conflicts_told};
 ghost use Rattle.rule_merging.specs.OfProgram.{AddsDetails};
 
@@ -18,8 +18,8 @@ use rule_field_groups::{Breach, Schema};
 use std::alloc::{AllocError, Global};
 
 /// Whether the fields of operations merge (section 5.3.2, "FieldsInSetCanMerge"). What was examined is kept over all
-/// operations of a document, so that no list of fields is examined twice. Of an operation of which no two fields have one
-/// response key, in any of its sets, nothing is examined, and nothing is kept.
+/// operations of a document, so that no list of fields is examined twice. If no two fields of an operation have one response
+/// key, in any of its sets, nothing of it is examined, and nothing is kept.
 ///
 /// A value is clean at first, and after each call on a clean one that ends and adds nothing.
 pub struct FieldsInSetCanMerge<'doc> {
@@ -76,7 +76,7 @@ impl<'doc> FieldsInSetCanMerge<'doc> {
         self.is_clean
     }
 
-    /// How often the shapes of two fields were compared, in all calls; where this is the greatest number, at least as often.
+    /// How often the shapes of two fields were compared, in all calls; if this is the greatest number, at least as often.
     pub fn comparisons(&self) -> u128
         ensures is { result ≡ (merger_of self.now).comparisons }
         ensures few { ComparesFew (merger_of self.now) }
@@ -85,10 +85,11 @@ impl<'doc> FieldsInSetCanMerge<'doc> {
         self.examined.comparisons()
     }
 
-    /// Tells what does not merge in the operation: ConflictingFieldType where fields of one response key differ in shape,
-    /// ConflictingFieldName and ConflictingFieldArgument where one object may have both; each at the later field. After 128
-    /// levels of fields it tells the bound, at the operation, and what lies below is not examined. A clean value that adds
-    /// nothing has shown that the fields merge. Where memory is refused the list begins as before, and the value is not clean.
+    /// Tells what does not merge in the operation: ConflictingFieldType if fields of one response key differ in shape,
+    /// ConflictingFieldName and ConflictingFieldArgument if one object may have both; each at the later field in the text.
+    /// After 128 levels of fields it tells the bound, at the operation, and what is below is not examined. A clean value that
+    /// adds nothing has shown that the fields merge. If memory is refused, the old list is a prefix of the new one, and the
+    /// value is not clean.
     pub fn validate_operation(
         &mut self,
         operation: &'doc Node<Operation>,
@@ -143,7 +144,7 @@ fn append_limit(
     Ok(())
 }
 
-/// Adds all that merging tells of the operation at the end. After a refusal the list begins as before.
+/// Appends all that merging tells of the operation. If memory is refused, the old list is a prefix of the new one.
 fn append_conflicts(
     list: &mut DiagnosticList,
     operation: &Node<Operation>,

@@ -3,12 +3,12 @@ ghost use Rattle.std.specs.Prelude.{◌≡◌, ◌||◌, List, IfOk, OnOk, IsTru
 ghost use Rattle.rule_field_groups.specs.in_sets.in_schema.SchemaOf.{schema_tree};
 ghost use Rattle.rule_field_groups.specs.in_definitions.Judged.{judged};
 ghost use Rattle.graphql_names.specs.Placed.{Place};
-ghost use Rattle.rule_field_groups.specs.in_meaning.MeantTree.{MeantOperation, MeantDocument, meant_of_set};
-ghost use Rattle.rule_field_groups.specs.in_sets.in_ground.in_typed_operations.DocumentView.{document_meant, operation_meant};
+ghost use Rattle.rule_field_groups.specs.in_spec_document.MeantTree.{MeantOperation, MeantDocument, meant_of_set};
+ghost use Rattle.rule_field_groups.specs.in_sets.in_reach.in_typed_operations.DocumentView.{document_meant, operation_meant};
 ghost use Rattle.rule_field_groups.specs.in_definitions.Judged.{Judged};
 ghost use Rattle.rule_field_groups.specs.in_typed_selections.TypedTree.{typed_set_tree};
 ghost use Rattle.rule_field_groups.specs.in_document_definitions.ReadFields.{fragments_read, set_read};
-ghost use Rattle.rule_document_ground.specs.LoneKeys.{AreKeysLone};
+ghost use Rattle.rule_reach.specs.LoneKeys.{AreKeysLone};
 ghost use Rattle.rule_field_groups.specs.in_sets.Nodes.{AreSets, HasAllStarts};
 ghost use Rattle.rule_field_groups.specs.in_sets.Read.{set_at};
 ghost use Rattle.rule_merging.specs.Verdict.{comparisons_of, lists_examined, AreBothSettled, IsCounted, StaysCountedIn, OnlyGrow, ExaminesOperation, AreSetsFor, AreKnown, LooksAtFew, Begins};
@@ -16,17 +16,17 @@ ghost use Rattle.rule_merging.specs.Verdict.{comparisons_of, lists_examined, Are
 use crate::examination::Examination;
 use document_typed_operations::{ExecutableDocument, Operation};
 use graphql_names::Node;
-use rule_document_ground::keys_differ;
-use rule_field_groups::{Breach, FieldSets, Pass, Remembered, Schema, SelectionSet};
+use rule_field_groups::{Breach, FieldSets, MergeState, Pass, Schema, SelectionSet};
+use rule_reach::keys_differ;
 use std::alloc::{AllocError, Global};
 
 /// What was examined in each pass, over all operations so far, and how often shapes were compared.
 pub struct Examined<'doc> {
     /// The sets of the document, as far as they were examined.
     pub(crate) sets: FieldSets<'doc>,
-    pub(crate) shapes: Remembered,
-    pub(crate) selections: Remembered,
-    /// Whether the next operation is asked if no two of its fields have one key: all so far were asked, and were so.
+    pub(crate) shapes: MergeState,
+    pub(crate) selections: MergeState,
+    /// Whether the next operation is checked for lone keys: all so far were checked, and no two fields of one set had one key.
     pub(crate) may_be_lone: bool,
 }
 
@@ -42,7 +42,7 @@ impl Drop for Examined<'_> {
 }
 
 impl<'doc> Examined<'doc> {
-    /// Nothing.
+    /// Nothing examined yet.
     pub fn new(
         alloc: Global,
         schema: &'doc Schema,
@@ -56,13 +56,13 @@ impl<'doc> Examined<'doc> {
     {
         Examined {
             sets: FieldSets::new(alloc, schema, &document.fragments),
-            shapes: Remembered::new(alloc),
-            selections: Remembered::new(alloc),
+            shapes: MergeState::new(alloc),
+            selections: MergeState::new(alloc),
             may_be_lone: true,
         }
     }
 
-    /// How often the shapes of two fields were compared; where this is the greatest number, at least as often.
+    /// How often the shapes of two fields were compared; if this is the greatest number, at least as often.
     pub fn comparisons(&self) -> u128
         ensures { result ≡ comparisons_of self.now }
     {
@@ -78,25 +78,25 @@ impl<'doc> Examined<'doc> {
     }
 }
 
-/// Adds the set of an operation to those of the document, and gives its node. What was examined means what it meant.
+/// Adds the set of an operation to those of the document, and returns its node. What was examined means what it meant.
 fn begin<'doc>(examined: &mut Examined<'doc>, set: &'doc SelectionSet) -> Result<usize, AllocError>
     requires sets { AreSets examined.old.sets }
     ensures begun { Begins examined.old examined.new }
     ensures node { IfOk result (λ n. (set_at examined.new.sets n ≡ meant_of_set (typed_set_tree set.now)) × HasAllStarts examined.new.sets) }
 {
-    // what stands there are numbers of these sets; the prover is told so
+    // the numbers in it are numbers of these sets; the check tells the prover so
     if !examined.is_known() {
         return Err(AllocError);
     }
     examined.sets.add_set(set)
 }
 
-/// Whether fields are left below 128 levels in one of the passes. Numbers of other sets stand nowhere, else it fails.
+/// Whether fields are left below 128 levels in one of the passes. Fails if numbers of other sets are there, which is never so.
 fn left_in_either(examined: &Examined<'_>, left: bool, too: bool) -> Result<bool, AllocError>
     ensures left { IfOk result (λ some. some ≡ (left || too)) }
     ensures pairs { OnOk result (LooksAtFew examined.now) }
 {
-    // what stands there are numbers of these sets; the prover is told so
+    // the numbers in it are numbers of these sets; the check tells the prover so
     if !examined.is_known() {
         return Err(AllocError);
     }
@@ -138,7 +138,7 @@ fn examine_lists<'doc>(
     left_in_either(examined, left, too)
 }
 
-/// Whether no two fields of an operation have one key, in any of its sets, if this is asked. A no says nothing.
+/// Whether no two fields of an operation have one key, in any of its sets, if this is asked. A no tells nothing.
 fn has_lone_keys(
     alloc: Global,
     document: &ExecutableDocument,
@@ -153,8 +153,8 @@ fn has_lone_keys(
     keys_differ(alloc, document, &operation.content().selection_set)
 }
 
-/// Examines the fields of an operation and all below them, in both passes. Answers whether fields are left below 128 levels. Where
-/// no two of them have one key, in any set, nothing is to be merged, and no list of them is made.
+/// Examines the fields of an operation and all below them, in both passes. Answers whether fields are left below 128 levels. If
+/// no two of them have one key, in any set, there is nothing to merge, and no list of them is made.
 pub fn examine_operation<'doc>(
     schema: &'doc Schema,
     document: &'doc ExecutableDocument,

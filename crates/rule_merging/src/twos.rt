@@ -2,9 +2,10 @@
 ghost use Rattle.std.specs.Prelude.{◌≡◌, ◌↔◌, ◌<◌, ◌∷◌, ◌≤◌, ◌+◌, [], cond, length, take, IsTrue, OnOk};
 ghost use Rattle.rule_field_groups.specs.in_sets.Nodes.{HasMember};
 ghost use Rattle.rule_field_groups.specs.in_sets.Read.{set_at};
-ghost use Rattle.rule_field_groups.specs.Members.{meant_sets, AreMembersOf};
-ghost use Rattle.rule_field_groups.specs.Remembered.{two_of};
-ghost use Rattle.rule_merging.specs.Twos.{HaveOneObject, GoByNumbers, GoAllTogether, are_two, are_of, GrowsByTwo};
+ghost use Rattle.rule_field_groups.specs.Members.{fields_of, meant_sets, AreMembersOf};
+ghost use Rattle.rule_field_groups.specs.Passes.{AddsGroup};
+ghost use Rattle.rule_field_groups.specs.MergeState.{two_of};
+ghost use Rattle.rule_merging.specs.Twos.{HaveOneObject, GoByNumbers, GoAllTogether, AgreeByNumbers, AllAgreeByNumbers, are_two, are_of, GrowsByTwo};
 ghost use Rattle.rule_field_groups.specs.Compared.{compared};
 ghost use Rattle.rule_field_groups.specs.Under.{sets_in};
 ghost use Rattle.rule_merging.specs.Examined.{schema_of, sets_of, HasSets, ExaminesList, ExaminesPair, ExaminesPairs, ExaminesTwos, GrowsOver, GrowsOverTwo, GrowsHere};
@@ -13,7 +14,7 @@ ghost use Rattle.rule_merging.specs.OfProgram.{Comes, ExaminesThese, PairsOf};
 
 use crate::examination::Examination;
 use rule_field_groups::{
-    Breach, Member, NumberRows, Pair, Pass, Remembered, check_group, node_of, push_below, starts_of,
+    Breach, Member, MergeState, NumberRows, Pair, Pass, check_group, node_of, push_below, starts_of,
 };
 use std::alloc::AllocError;
 
@@ -24,7 +25,7 @@ fn may_share(one: &Member<'_>, other: &Member<'_>) -> bool
     one.parent == other.parent || one.is_shared || other.is_shared
 }
 
-/// Whether two fields go together: they are answered under one key, and one object may have both, where not shapes are compared.
+/// Whether two fields go together: they have one response key, and, if shapes are not compared, one object may have both.
 fn go_together(pass: Pass, one: &Member<'_>, other: &Member<'_>) -> bool
     ensures { IsTrue result ↔ GoByNumbers pass one.now other.now }
 {
@@ -44,7 +45,7 @@ fn are_empty(ones: &[usize], others: &[usize]) -> bool
     ones.is_empty() && others.is_empty()
 }
 
-/// Two fields, or the first of them where both say the same.
+/// Two fields, or only the first if both have the same contents.
 fn list_of_two<'a, 'doc>(both: &'a [Member<'doc>], is_one: bool) -> &'a [Member<'doc>]
     requires { 1 ≤ length both.now }
     ensures { result.now ≡ cond is_one (take 1 both.now) both.now }
@@ -55,15 +56,55 @@ fn list_of_two<'a, 'doc>(both: &'a [Member<'doc>], is_one: bool) -> &'a [Member<
     both
 }
 
-/// Whether more is told than so many breaches.
+/// Whether there are more than so many breaches.
 fn is_told(breaches: &[Breach], told: usize) -> bool
     ensures { IsTrue result → told < length breaches.now }
 {
     breaches.len() > told
 }
 
+/// Whether the numbers of two fields show that they agree: they have one type, where shapes are compared, or else one name with one
+/// list of arguments.
+fn agree(pass: Pass, one: &Member<'_>, other: &Member<'_>) -> bool
+    ensures { IsTrue result → AgreeByNumbers pass one.now other.now }
+{
+    match pass {
+        Pass::Shapes => one.ty == other.ty,
+        Pass::Selections => one.call == other.call,
+    }
+}
+
+/// Whether the numbers of the fields of a list show that all of them agree with the first.
+fn all_agree(pass: Pass, fields: &[Member<'_>]) -> bool
+    ensures { IsTrue result → AllAgreeByNumbers pass fields.now }
+{
+    match fields.split_first() {
+        None => true,
+        Some((first, others)) => others.iter().all(|other| agree(pass, first, other)),
+    }
+}
+
 impl<'doc> Examination<'_, 'doc> {
-    /// Compares fields that go together, and adds a list of the sets below them.
+    /// Tells each further field of a list that does not agree with the first one; none is compared where numbers show that all agree.
+    fn compare(
+        &self,
+        fields: &[Member<'doc>],
+        breaches: &mut Vec<Breach>,
+        comparisons: &mut u128,
+    ) -> Result<(), AllocError>
+        requires sets { HasSets self.now }
+        requires members { AreMembersOf (sets_of self.now) fields.now }
+        ensures told { OnOk result (AddsGroup self.now.pass (schema_of self.now) (fields_of fields.now) breaches.old breaches.new) }
+        ensures more { comparisons.old ≤ comparisons.new }
+        ensures counted { comparisons.new ≤ comparisons.old + compared self.now.pass fields.now }
+    {
+        if all_agree(self.pass, fields) {
+            return Ok(());
+        }
+        check_group(self.pass, self.schema, fields, breaches, comparisons)
+    }
+
+    /// Compares fields that go together, and adds a list of their sets.
     fn examine_together(
         &self,
         fields: &[Member<'doc>],
@@ -78,16 +119,16 @@ impl<'doc> Examination<'_, 'doc> {
         ensures more { comparisons.old ≤ comparisons.new }
         ensures counted { comparisons.new ≤ comparisons.old + compared self.now.pass fields.now }
     {
-        check_group(self.pass, self.schema, fields, breaches, comparisons)?;
+        self.compare(fields, breaches, comparisons)?;
         push_below(*breaches.allocator(), self.sets, fields, next)
     }
 
-    /// Compares two fields that go together, if they were not compared before, and adds a list of the sets below them.
+    /// Compares two fields that go together, if they were not compared before, and adds a list of their sets.
     fn examine_two_fields(
         &self,
         one: &Member<'doc>,
         other: &Member<'doc>,
-        examined: &mut Remembered,
+        examined: &mut MergeState,
         breaches: &mut Vec<Breach>,
     ) -> Result<(), AllocError>
         requires sets { HasSets self.now }
@@ -113,7 +154,7 @@ impl<'doc> Examination<'_, 'doc> {
         &self,
         one: Member<'doc>,
         others: &[Member<'doc>],
-        examined: &mut Remembered,
+        examined: &mut MergeState,
         breaches: &mut Vec<Breach>,
     ) -> Result<(), AllocError>
         requires sets { HasSets self.now }
@@ -128,13 +169,13 @@ impl<'doc> Examination<'_, 'doc> {
         Ok(())
     }
 
-    /// Compares each field of the one list with each of the other, unless all of them are in one list that was examined, up to the
-    /// first that is told of: all that do not merge could be as many as fields times fields.
+    /// Compares each field of one list with each of the other, unless all of them are in one list that was examined. It
+    /// stops after a field for which something is told: the conflicts could be as many as fields times fields.
     pub(crate) fn examine_each(
         &self,
         ones: &[Member<'doc>],
         others: &[Member<'doc>],
-        examined: &mut Remembered,
+        examined: &mut MergeState,
         breaches: &mut Vec<Breach>,
     ) -> Result<(), AllocError>
         requires sets { HasSets self.now }
@@ -156,11 +197,11 @@ impl<'doc> Examination<'_, 'doc> {
         Ok(())
     }
 
-    /// Compares the own fields of the two, and looks at what each of them spreads with the other.
+    /// Compares the own fields of the two sets, and looks at what each of them spreads with the other.
     fn examine_pair(
         &self,
         pair: Pair,
-        examined: &mut Remembered,
+        examined: &mut MergeState,
         breaches: &mut Vec<Breach>,
     ) -> Result<(), AllocError>
         requires sets { HasSets self.now }
@@ -183,10 +224,10 @@ impl<'doc> Examination<'_, 'doc> {
         examined.look_before_each(sets, one, &starts)
     }
 
-    /// Examines the pairs that wait, the last one first, and those that come to them, up to the first that is told of.
+    /// Examines the pairs that are left, the last one first, and those that are added to them, until something is told.
     fn examine_pairs(
         &self,
-        examined: &mut Remembered,
+        examined: &mut MergeState,
         breaches: &mut Vec<Breach>,
     ) -> Result<(), AllocError>
         requires sets { HasSets self.now }
@@ -203,12 +244,12 @@ impl<'doc> Examination<'_, 'doc> {
         Ok(())
     }
 
-    /// Looks at each of these sets with the other, which comes after them, and examines the pairs, up to the first that is told of.
+    /// Looks at each of these sets with the other, which comes after them, and examines the pairs, until something is told.
     fn examine_with_those(
         &self,
         nodes: &[usize],
         other: usize,
-        examined: &mut Remembered,
+        examined: &mut MergeState,
         breaches: &mut Vec<Breach>,
     ) -> Result<(), AllocError>
         requires sets { HasSets self.now }
@@ -220,12 +261,13 @@ impl<'doc> Examination<'_, 'doc> {
         self.examine_pairs(examined, breaches)
     }
 
-    /// Examines what each two of the sets select, and what each of them does, up to the first that is told of. Each set is examined with
-    /// those before it and with itself, so that no more pairs wait than one set is in, and those that come to them.
+    /// Examines what each two of the sets select, and what each of them selects, until something is told. Each set is
+    /// examined with those before it and with itself, so that no more pairs wait than one set is in, and those that are
+    /// added to them.
     pub(crate) fn examine_twos(
         &self,
         nodes: &[usize],
-        examined: &mut Remembered,
+        examined: &mut MergeState,
         breaches: &mut Vec<Breach>,
     ) -> Result<(), AllocError>
         requires sets { HasSets self.now }

@@ -16,10 +16,10 @@ use Rattle.schema_fold.specs.in_definitions.Writable.{definition_writable}
 use Rattle.schema_fold.specs.in_schema_types.TypeParts.{TypeParts, TypeDefinition, type_here, type_extension_here, bare, definition_by}
 use Rattle.schema_fold.specs.in_schema_types.declared.type_kind.TypeKind.{TypeKind}
 use Rattle.schema_fold.specs.in_schema_types.declared.type_kind.TypeKind.TheVariants as kind
-use Rattle.schema_fold.specs.Listed.{Definitions}
+use Rattle.schema_fold.specs.NumberedDefinition.{Definitions}
 use Rattle.schema_fold.specs.Adoption.{without_redefinitions, is_redefinition, parts_name, orphans, empty_type, with_types, with_schema, has_orphan_schema, empty_schema, settled}
-use Rattle.read_again.specs.in_read.EachPlace.{all_in_definition}
-use Rattle.read_again.specs.in_read.Sound.{is_own}
+use Rattle.round_trip.specs.in_read.EachPlace.{all_in_definition}
+use Rattle.round_trip.specs.in_read.Sound.{is_own}
 use Rattle.schema_types.proofs.in_components.Places.{found_at}
 use Rattle.rule_cycle_search.proofs.Lists.{not_in_nil, Contains-cons, Contains-first, only}
 use Rattle.rule_schema_laws.specs.ReadTexts.{Texts, AreReadElsewhere}

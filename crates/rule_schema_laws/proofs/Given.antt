@@ -11,9 +11,9 @@ use Rattle.tree_literals.specs.NumberSyntax.{integer_value}
 use Rattle.tree_literals.specs.ValueTree.{ValueTree, EntryTrees, EnumTree, StringTree, IntTree, BooleanTree, ListTree, ObjectTree, no_items, no_entries, entry_then}
 use Rattle.tree_literals.specs.ValueQueries.{is_null_value}
 use Rattle.tree_literals.specs.ValueWritable.{value_writable, entries_writable, can_be_enum}
-use Rattle.read_again.specs.WellFormed.{value_well_formed, entries_well_formed}
-use Rattle.rule_definitions.specs.in_schema_types.in_values.DirectiveTree.{InputValueTree}
-use Rattle.rule_definitions.specs.in_schema_types.in_values.DirectiveQueries.{is_required_input}
+use Rattle.round_trip.specs.WellFormed.{value_well_formed, entries_well_formed}
+use Rattle.rule_definitions.specs.in_schema_types.in_operations.DirectiveTree.{InputValueTree}
+use Rattle.rule_definitions.specs.in_schema_types.in_operations.DirectiveQueries.{is_required_input}
 use Rattle.rule_definitions.specs.in_schema_types.SchemaTree.{is_input_kind}
 use Rattle.rule_definitions.specs.in_schema_types.Looks.{TypeLooks}
 use Rattle.rule_definitions.specs.in_schema_types.Addresses.{TypeAt, InputAt}

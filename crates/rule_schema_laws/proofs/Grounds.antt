@@ -7,7 +7,7 @@ use Rattle.std.specs.Cmp.Lexicographic.{nat_list_eq_equiv, texts_ties}
 use Rattle.std.proofs.lemmas.List.Elements.{Contains-append_right}
 use Rattle.graphql_names.specs.Placed.{Place}
 use Rattle.tree_literals.specs.ValueWritable.{can_be_enum}
-use Rattle.rule_definitions.specs.in_schema_types.in_values.DirectiveTree.{InputValueTree}
+use Rattle.rule_definitions.specs.in_schema_types.in_operations.DirectiveTree.{InputValueTree}
 use Rattle.rule_definitions.specs.in_schema_types.in_type_members.TypeSystemTree.{EnumValueTree}
 use Rattle.rule_definitions.specs.in_components.Names.{NamedMap, by_bytes}
 use Rattle.schema_types.proofs.in_components.NamedLookups.{tied}

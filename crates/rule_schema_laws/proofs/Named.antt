@@ -10,7 +10,7 @@ use Rattle.graphql_names.specs.Placed.{Placed, Place}
 use Rattle.schema_types.specs.in_components.Given.{Given, plain_given}
 use Rattle.schema_types.specs.in_components.Names.{Entries, named}
 use Rattle.schema_types.specs.in_type_members.TypeSystemTree.{EnumValueTree, unplaced_enum_value}
-use Rattle.schema_types.specs.in_values.DirectiveTree.{InputValueTree, unplaced_input_value}
+use Rattle.schema_types.specs.in_operations.DirectiveTree.{InputValueTree, unplaced_input_value}
 use Rattle.schema_types.specs.SchemaTree.{SchemaTree}
 use Rattle.schema_types.specs.Looks.{TypeLooks}
 use Rattle.schema_types.specs.Addresses.{under, type_at}

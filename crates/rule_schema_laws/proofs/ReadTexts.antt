@@ -18,7 +18,7 @@ use Rattle.schema_fold.specs.in_schema_types.Looks.{TypeLooks}
 use Rattle.schema_fold.specs.in_schema_types.Addresses.{under, or_nothing, type_at}
 use Rattle.schema_fold.specs.in_schema_types.declared.type_kind.TypeKind.TheVariants as kind
 use Rattle.schema_fold.specs.BuiltIn.{built_in_definitions}
-use Rattle.schema_fold.specs.Listed.{Definitions, Listed, listed_after, numbered, type_name, types_in}
+use Rattle.schema_fold.specs.NumberedDefinition.{Definitions, NumberedDefinition, listed_after, numbered, type_name, types_in}
 use Rattle.schema_fold.specs.Components.{all_given, go_together, extension_here, parts_of, components, value_key, keyed_firsts}
 use Rattle.schema_fold.specs.Fold.{fold, folded_type}
 use Rattle.schema_types.proofs.UnderNames.{get_under}
@@ -122,10 +122,10 @@ module _ (first : ℕ) (texts : Definitions) (fine : AreFine texts) where
         let (l, (stands, given)) = found_in (extension_here t.parts) g (numbered first all) r in
         let (before, (d, (there, is))) = from_place (λ before d. listed_after first before d ∷ []) all l stands in
         let same : l ≡ listed_after first before d = only (listed_after first before d) l is in
-        extended l g given (type_extension_here l.definition) refl (λ e here. values_extending d there e (ap (λ (x : Listed). type_extension_here x.definition) (sym same) ∙ here))
+        extended l g given (type_extension_here l.definition) refl (λ e here. values_extending d there e (ap (λ (x : NumberedDefinition). type_extension_here x.definition) (sym same) ∙ here))
   ]
     where
-      extended : (l : Listed) (g : Given Place (TypeParts Place)) → Contains (extension_here t.parts l) g → (o : Option (TypeParts Place)) → type_extension_here l.definition ≡ o
+      extended : (l : NumberedDefinition) (g : Given Place (TypeParts Place)) → Contains (extension_here t.parts l) g → (o : Option (TypeParts Place)) → type_extension_here l.definition ≡ o
           → ((e : TypeParts Place) → type_extension_here l.definition ≡ Some e → AreValues e) → AreValues g.it
       extended l g given None none values = not_in_nil g (subst (λ o. Contains (option_map_or (λ (parts : TypeParts Place). if go_together t.parts parts then record { extension = l.extension; it = parts } ∷ [] else []) o []) g) none given)
       extended l g given (Some e) here values = by (go_together t.parts e) (subst (λ o. Contains (option_map_or (λ (parts : TypeParts Place). if go_together t.parts parts then record { extension = l.extension; it = parts } ∷ [] else []) o []) g) here given)

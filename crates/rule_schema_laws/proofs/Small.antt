@@ -6,10 +6,10 @@ use Rattle.std.specs.Cmp.Lexicographic.{nat_list_cmp_total}
 use Rattle.std.proofs.lemmas.Option.{same_Some}
 use Rattle.std.proofs.lemmas.Slice.Eq.{bytes_eq-Decides}
 use Rattle.graphql_names.specs.Placed.{Placed, Place}
-use Rattle.rule_definitions.specs.in_schema_types.in_values.DirectiveTree.{DirectiveDefinitionTree, InputValueTree}
-use Rattle.rule_definitions.specs.in_schema_types.in_values.in_directives.declared.directive_location.DirectiveLocation.{DirectiveLocation}
-use Rattle.rule_definitions.specs.in_schema_types.in_values.in_directives.declared.directive_location.DirectiveLocation.TheVariants as location
-use Rattle.rule_definitions.specs.in_schema_types.in_values.in_directives.declared.operation_type.OperationType.TheVariants as operation
+use Rattle.rule_definitions.specs.in_schema_types.in_operations.DirectiveTree.{DirectiveDefinitionTree, InputValueTree}
+use Rattle.rule_definitions.specs.in_schema_types.in_operations.in_directives.declared.directive_location.DirectiveLocation.{DirectiveLocation}
+use Rattle.rule_definitions.specs.in_schema_types.in_operations.in_directives.declared.directive_location.DirectiveLocation.TheVariants as location
+use Rattle.rule_definitions.specs.in_schema_types.in_operations.in_directives.declared.operation_type.OperationType.TheVariants as operation
 use Rattle.rule_definitions.specs.in_schema_types.in_type_members.TypeSystemTree.{FieldDefinitionTree, EnumValueTree, unplaced_field_definition}
 use Rattle.rule_definitions.specs.in_components.Names.{by_bytes}
 use Rattle.rule_definitions.specs.in_components.Given.{Given, plain_given}

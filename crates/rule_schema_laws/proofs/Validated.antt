@@ -8,7 +8,7 @@ use Rattle.std.proofs.lemmas.List.Elements.{Contains-append_right, Contains-appe
 use Rattle.graphql_names.specs.NameSyntax.{is_name}
 use Rattle.graphql_names.specs.Placed.{Place}
 use Rattle.graphql_names.specs.Places.{is_built_in}
-use Rattle.rule_definitions.specs.in_schema_types.in_values.DirectiveTree.{InputValueTree}
+use Rattle.rule_definitions.specs.in_schema_types.in_operations.DirectiveTree.{InputValueTree}
 use Rattle.rule_definitions.specs.in_components.Names.{by_bytes}
 use Rattle.rule_definitions.specs.in_schema_types.SchemaTree.{SchemaType, SchemaTree, is_input_kind, same_kind}
 use Rattle.rule_definitions.specs.in_schema_types.Plain.{plain_type}

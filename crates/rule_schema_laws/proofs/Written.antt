@@ -14,12 +14,12 @@ use Rattle.read_operations.specs.in_grammar.Rules.{Rule}
 use Rattle.read_operations.specs.in_grammar.Grammar.{DerivesAs}
 use Rattle.read_operations.specs.in_grammar.ValueGrammar.{value, constant}
 use Rattle.read_operations.specs.Meanings.{in_file}
-use Rattle.read_again.specs.in_read.Reads.{HasTree}
-use Rattle.read_again.specs.Printed.{Follow, ends_word, before, Printed}
-use Rattle.read_again.specs.WellFormed.{value_depth}
-use Rattle.read_again.proofs.Alone.{literals_read}
-use Rattle.read_again.proofs.Unplaced.{value_same}
-use Rattle.read_again.proofs.Values.{value_read}
+use Rattle.round_trip.specs.in_read.Reads.{HasTree}
+use Rattle.round_trip.specs.Printed.{Follow, ends_word, before, Printed}
+use Rattle.round_trip.specs.WellFormed.{value_depth}
+use Rattle.round_trip.proofs.Alone.{literals_read}
+use Rattle.round_trip.proofs.Unplaced.{value_same}
+use Rattle.round_trip.proofs.Values.{value_read}
 use Rattle.rule_definitions.specs.in_schema_types.SchemaTree.{is_input_kind}
 use Rattle.rule_definitions.specs.Judged.{Judged}
 use Rattle.rule_definitions.specs.Accepts.{Takes}

@@ -41,7 +41,7 @@ directive_text = codes "type __Directive { name: String! description: String loc
 abbrev pub directive_location_text : List ℕ
 directive_location_text = codes "enum __DirectiveLocation { QUERY MUTATION SUBSCRIPTION FIELD FRAGMENT_DEFINITION FRAGMENT_SPREAD INLINE_FRAGMENT VARIABLE_DEFINITION SCHEMA SCALAR OBJECT FIELD_DEFINITION ARGUMENT_DEFINITION INTERFACE UNION ENUM ENUM_VALUE INPUT_OBJECT INPUT_FIELD_DEFINITION DIRECTIVE_DEFINITION } "
 
--- all of it
+-- the whole text
 abbrev pub built_in_text : List ℕ
 built_in_text = concat (
     skip_text

@@ -1,4 +1,4 @@
--- Private: leads to `built_in_definitions`. That the text is read as what is built in.
+-- Private: leads to `built_in_definitions`. The text is read as the definitions that are built in.
 use Rattle.std.specs.Prelude.{◌≡◌, ◌≤◌, List}
 use Rattle.graphql_names.specs.declared.span.FileId.{FileId}
 use Rattle.graphql_names.specs.Placed.{Place}
@@ -11,8 +11,8 @@ use Rattle.read_operations.specs.Meanings.{in_file}
 use Rattle.schema_built_in.specs.Table.{built_in_definitions}
 use Rattle.rule_schema_laws.specs.BuiltInText.{built_in_text}
 
--- In the file the text is a document, whose brackets nest two deep at most, and its definitions are those that are built in,
--- places aside.
+-- In the file the text is a document, with brackets nested at most two deep, and its definitions are those that are built
+-- in, ignoring places.
 pub record TextReads (file : FileId) : Type 0 where
   pub tokens : List Token
   pub tree : List (DefinitionTree Place)

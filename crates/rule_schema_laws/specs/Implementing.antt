@@ -12,8 +12,8 @@ module _ (s : Judged) where
   abbrev pub Implements : List ℕ → List ℕ → Type 0
   Implements n i = Present (s.type_named n) (λ t. t.implements i ≡ true)
 
--- What is implemented is an interface, no type implements itself, and who implements an interface implements also what that
--- one implements.
+-- What is implemented is an interface, no type implements itself, and a type that implements an interface also implements
+-- what that interface implements.
 pub record ImplementsInOrder (s : Judged) : Type 0 where
   pub interfaces : (n i : List ℕ) → Implements s n i → IsInterface s i
   pub irreflexive : (n : List ℕ) → Implements s n n → ⊥

@@ -15,20 +15,20 @@ use Rattle.rule_schema_laws.specs.Implementing.{ImplementsInOrder}
 use Rattle.rule_schema_laws.specs.Literals.{IsLiteral, HasTheFiveAlone, HasNoKeywordValue, InputTypesHaveLiterals}
 use Rattle.rule_schema_laws.specs.Named.{HasNames}
 
--- of all that rules read, so also of what no schema in memory is
+-- for every `Judged`, also one that rules read of no schema in memory
 abbrev pub OrderedWhereRulesHold : Type 0
 OrderedWhereRulesHold = (s : Judged) → SchemaRules s → ImplementsInOrder s
 
--- where no two types stand under one name, as in every schema in memory
+-- for schemas in which no two types have the same name, as in every schema in memory
 abbrev pub OrderedAfterValidation : Type 0
 OrderedAfterValidation = (s : SchemaTree Place) → AreUnder s.types → SchemaRules (judged s) → ImplementsInOrder (judged (validated s))
 
--- where, besides, the names of enum values and input fields are names, as in every schema in memory
+-- each input type has a literal after validation, if also the names of enum values and input fields are names, as in every schema in memory
 abbrev pub LiteralsAfterValidation : Type 0
 LiteralsAfterValidation = (s : SchemaTree Place) → AreUnder s.types → HasNames (judged s) → SchemaRules (judged s)
     → HasTheFiveAlone (judged s) → HasNoKeywordValue (judged s) → InputTypesHaveLiterals (judged (validated s))
 
--- the premise on scalars is needed: of a built-in scalar besides the five, `Name!` has no literal
+-- the premise on scalars is needed: if a built-in scalar is none of the five, its `Name!` has no literal
 abbrev pub OtherScalarsHaveNone : Type 0
 OtherScalarsHaveNone = (s : Judged) (n : Text (Unit {0})) → Present (s.type_named n.it) (λ t. IsBuiltInScalar s n.it t) → (Contains scalar_names n.it → ⊥)
     → (file : FileId) (v : ValueTree Place) → IsLiteral s (NonNullNamedTree n) file v → ⊥

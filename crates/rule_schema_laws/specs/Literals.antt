@@ -10,7 +10,7 @@ use Rattle.tree_literals.specs.ValueWritable.{can_be_enum}
 use Rattle.read_operations.specs.in_grammar.Grammar.{DerivesAs}
 use Rattle.read_operations.specs.in_grammar.ValueGrammar.{value, constant}
 use Rattle.read_operations.specs.Meanings.{in_file}
-use Rattle.read_again.specs.in_read.Reads.{HasTree}
+use Rattle.round_trip.specs.in_read.Reads.{HasTree}
 use Rattle.rule_definitions.specs.in_schema_types.SchemaTree.{is_input_kind}
 use Rattle.rule_definitions.specs.in_schema_types.declared.type_kind.TypeKind.TheVariants as kind
 use Rattle.rule_definitions.specs.Words.{Present}
@@ -22,20 +22,20 @@ use Rattle.rule_definitions.specs.Values.{UniqueInputValueIn}
 use Rattle.rule_definitions.specs.Accepts.{Accepts}
 
 module _ (s : Judged) where
-  -- IsInputType (section 3.4.2): inside all brackets and marks stands a scalar, an enum or an input object
+  -- IsInputType (section 3.4.2): the inner type is a scalar, an enum or an input object
   abbrev pub IsInputType : TypeTree (Unit {0}) → Type 0
   IsInputType ty = Present (s.type_named (named_in ty)) (λ t. is_input_kind t.kind ≡ true)
 
-  -- A literal of the type: the text of the value, in the canonical layout, is a Value[Const] of the grammar, so without
-  -- variables, and this is the value that is read of it in the file (section 2.9). The type accepts it, whatever variables
-  -- there are (section 5.6.1); no object in it has two equal keys (section 5.6.3); and it is not null.
+  -- A literal of the type: the text of the value, in the canonical layout, is a Value[Const] of the grammar, so without variables, and
+  -- reading it in the file gives this value (section 2.9). The type accepts the value, with any variables (section 5.6.1); no object in it
+  -- has two equal keys (section 5.6.3); and it is not null.
   pub record IsLiteral (ty : TypeTree (Unit {0})) (file : FileId) (v : ValueTree Place) : Type 0 where
     pub read : HasTree (DerivesAs (value (in_file file) constant)) (value_text v) v
     pub accepted : (variables : Variables Place) → Accepts s variables ty v
     pub keys : (fault : FaultAt Place (List Place)) → UniqueInputValueIn v fault → ⊥
     pub not_null : is_null_value v ≡ false
 
-  -- each input type, with any marks and brackets, has a literal, in whatever file it is read
+  -- each input type, with any marks and brackets, has a literal, in any file in which it is read
   abbrev pub InputTypesHaveLiterals : Type 0
   InputTypesHaveLiterals = (ty : TypeTree (Unit {0})) → IsInputType ty → (file : FileId) → (v : ValueTree Place) × IsLiteral ty file v
 
@@ -45,6 +45,6 @@ module _ (s : Judged) where
   abbrev pub HasTheFiveAlone : Type 0
   HasTheFiveAlone = (n : List ℕ) → Present (s.type_named n) (λ t. IsBuiltInScalar s n t) → Contains scalar_names n
 
-  -- no enum has a value `true`, `false` or `null`, as the grammar wants it (section 2.9.6)
+  -- no enum has a value `true`, `false` or `null`, as the grammar requires (section 2.9.6)
   abbrev pub HasNoKeywordValue : Type 0
   HasNoKeywordValue = (n m : List ℕ) → Present (s.type_named n) (λ t. (t.kind ≡ kind.Enum) × Present (t.value m) (λ v. can_be_enum m ≡ false)) → ⊥

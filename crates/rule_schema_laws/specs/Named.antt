@@ -1,4 +1,5 @@
--- That the values of enums and the fields of input objects have names, which holds of every schema in memory: a premise of the law of literals.
+-- The values of enums and the fields of input objects have names. This holds of every schema in memory, and is a premise of the law of
+-- literals.
 use Rattle.std.specs.Prelude.{◌≡◌, ℕ, true, List, is_some}
 use Rattle.graphql_names.specs.NameSyntax.{is_name}
 use Rattle.rule_definitions.specs.Words.{IfPresent}

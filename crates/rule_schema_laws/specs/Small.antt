@@ -1,5 +1,5 @@
--- An example: a small schema that keeps every rule, in which a type has no literal. It has a scalar `Foo` whose place is that of
--- what is built in, so that the built-in scalars are not among the five.
+-- An example: a small schema that keeps every rule, in which a type has no literal. It has a scalar `Foo` whose place is that of what is
+-- built in, so one of its built-in scalars is not among the five.
 use Rattle.std.specs.Prelude.{ℕ, List, [], ◌∷◌, codes, None, Some}
 use Rattle.graphql_names.specs.Placed.{Place, Text}
 use Rattle.graphql_names.specs.declared.span.FileId.{FileId}

@@ -21,7 +21,7 @@ use Rattle.rule_definitions.specs.GivenValues.{Wanted, Variables, wanted_name}
 use Rattle.rule_definitions.specs.Values.{wanted_item, FitsForm, UndefinedVariableIn, UndefinedVariableInItems, UndefinedVariableInEntries, FormBreaks, TypeBreaks, TypeBreaksItems, TypeBreaksEntries}
 use Rattle.rule_definitions.specs.VariableUsage.{IsVariableUsageAllowed}
 use Rattle.rule_definitions.specs.Uses.{Taker, directive_taker, GivenBreaks, TakerBreaks, UsesBreak}
-use Rattle.rule_definitions.specs.Told.{PlacedFault}
+use Rattle.rule_definitions.specs.PlacedFaults.{PlacedFault}
 use Rattle.rule_definitions.proofs.Firsts.{lacks_found, lacks_given, first_is_found}
 use Rattle.rule_definitions.proofs.Lookups.{find_given}
 use Rattle.rule_selections.specs.Settled.{AreAlike, AreDefinedIn}

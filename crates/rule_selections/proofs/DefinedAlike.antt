@@ -1,17 +1,24 @@
 -- Variables that each operation of a document defines alike, as they are found one operation after the other.
-use Rattle.std.proofs.Common.{◌≡◌, ◌⊎◌, ◌∙◌, ◌++◌, ℕ, List, [], ◌∷◌, map, refl, sym, ap, subst, inl, inr, Option, None, Some, Contains, is_some}
+use Rattle.std.proofs.Common.{◌≡◌, ◌⊎◌, ◌++◌, Bool, true, false, not, true≢false, List, [], ◌∷◌, map, refl, sym, subst, inl, inr, Option, None, Some, Contains, is_some}
 use Rattle.std.specs.Option.{option_map}
+use mathlib.Core.Bool.{beq}
 use Rattle.std.proofs.lemmas.List.Elements.{Contains-append_cases}
 use Rattle.graphql_names.specs.Placed.{Placed, Place}
 use Rattle.tree_operations.specs.OperationTree.{VariableDefinitionTree}
 use Rattle.schema_components.proofs.Places.{not_in_nil, Contains-cons}
-use Rattle.document_meaning.specs.MeantTree.{MeantOperation}
+use Rattle.spec_document.specs.MeantTree.{MeantOperation}
 use Rattle.rule_definitions.specs.GivenValues.{Variables}
 use Rattle.rule_selections.specs.Settled.{IsDefinedIn, AreDefinedIn, AreThoseDefined, KeepsIfDefined}
 
 pub some_map : {X Y : Type 0} (f : X → Y) (o : Option X) → is_some (option_map f o) ≡ is_some o
 some_map f None = refl
 some_map f (Some x) = refl
+
+pub alike_unless : (a b : Bool) → not (beq a b) ≡ false → a ≡ b
+alike_unless true true h = refl
+alike_unless true false h = absurd (true≢false h)
+alike_unless false true h = absurd (true≢false h)
+alike_unless false false h = refl
 
 -- ---- those that one operation defines so
 

@@ -9,8 +9,8 @@ use Rattle.document_typed_operations.specs.OperationsByName.{operations_list}
 use Rattle.document_typed_operations.specs.TypedDocument.{TypedOperation, typed_operation_tree, typed_operations_tree, typed_document_tree}
 use Rattle.document_typed_operations.specs.declared.operation.Operation.{Operation}
 use Rattle.document_typed_operations.specs.declared.document.ExecutableDocument.{ExecutableDocument}
-use Rattle.document_meaning.specs.MeantTree.{MeantOperation}
-use Rattle.rule_document_ground.specs.in_typed_operations.DocumentView.{meant_by_operation, document_meant, operation_meant}
+use Rattle.spec_document.specs.MeantTree.{MeantOperation}
+use Rattle.rule_reach.specs.in_typed_operations.DocumentView.{meant_by_operation, document_meant, operation_meant}
 use Rattle.rule_document_definitions.specs.Selected.{operations}
 
 meant_twice : (os : List (Node Operation)) → map meant_by_operation (map (node_tree typed_operation_tree) os) ≡ map operation_meant os

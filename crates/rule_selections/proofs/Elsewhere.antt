@@ -5,10 +5,10 @@ use Rattle.tree_directives.specs.DirectiveTree.{Directives}
 use Rattle.tree_directives.specs.declared.directive_location.DirectiveLocation.{DirectiveLocation}
 use Rattle.schema_components.proofs.Places.{not_in_nil, Contains-cons, Contains-first, Contains-rest}
 use Rattle.rule_selections.proofs.FieldPlaces.{some_is}
-use Rattle.document_meaning.specs.MeantTree.{MeantSelection, MeantField, MeantSpread, MeantInline, MeantSet, meant_set, MeantSelections, no_meant, meant_then}
+use Rattle.spec_document.specs.MeantTree.{MeantSelection, MeantField, MeantSpread, MeantInline, MeantSet, meant_set, MeantSelections, no_meant, meant_then}
 use Rattle.rule_definitions.specs.Words.{Present}
 use Rattle.rule_document_definitions.specs.Selected.{Position, InOperation, SelectionAt, Standing, StandingField, HasNone, stand, standing_in, field_there, spread_name, inline_condition, selection_place, selection_location, selection_directives}
-use Rattle.rule_document_ground.specs.Reach.{Member}
+use Rattle.rule_reach.specs.Reach.{Member}
 use Rattle.rule_selections.specs.Settled.{filler}
 
 module _ {P : Type 0} where

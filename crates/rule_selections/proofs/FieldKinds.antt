@@ -17,14 +17,14 @@ use Rattle.schema_types.specs.Looks.{TypeLooks}
 use Rattle.fault_data.proofs.Judgings.{type_seen, type_look, named_unplaced}
 use Rattle.rule_definitions.specs.Judged.{judged}
 use Rattle.rule_definitions.specs.Names.{named_in}
-use Rattle.rule_definitions.specs.Told.{PlacedFault}
+use Rattle.rule_definitions.specs.PlacedFaults.{PlacedFault}
 use Rattle.rule_definitions.specs.Words.{Present}
 use Rattle.document_typed_selections.specs.TypedTree.{TypedSet, typed_set, no_typed, typed_then, holds_none}
-use Rattle.document_meaning.specs.MeantTree.{MeantSet, meant_set, no_meant, meant_then, meant_of_set}
+use Rattle.spec_document.specs.MeantTree.{MeantSet, meant_set, no_meant, meant_then, meant_of_set}
 use Rattle.rule_document_definitions.specs.Selected.{StandingField, HasNone}
 use Rattle.rule_document_definitions.specs.PossibleTypes.{IsCompositeType}
 use Rattle.rule_definitions.proofs.Listing.{Lists, lists_same, lists_nothing, lists_one}
-use Rattle.rule_selections.specs.Steps.{selects_none, without_subselection, missing_on, missing_subselection, MissesSubselection}
+use Rattle.rule_selections.specs.SelectionFaults.{selects_none, without_subselection, missing_on, missing_subselection, MissesSubselection}
 
 -- the kind of a type of a schema is the one that rules read
 pub kind_found : (s : SchemaTree Place) (n : List ℕ) → option_map (λ t. t.kind) ((judged s).type_named n) ≡ option_map (λ t. t.kind) (type_at s n)

@@ -14,7 +14,7 @@ use Rattle.schema_types.specs.Addresses.{FieldAt, ArgumentAt, TypeReferenceAt, u
 use Rattle.graphql_schema.specs.in_built_in.MetaFields.{typename_field, schema_field, type_field, meta_fields, meta_field_of}
 use Rattle.graphql_schema.specs.MetaField.{by_definition}
 use Rattle.graphql_schema.specs.LookUps.{is_composite_kind, is_query_root, explicit_field, meta_field, meta_field_on, field_named}
-use Rattle.rule_document_definitions.specs.Told.{place_or_built_in}
+use Rattle.rule_document_definitions.specs.PlacedDocumentFaults.{place_or_built_in}
 
 abbrev Defined : Type 0
 Defined = Placed Place (FieldDefinitionTree Place)

@@ -6,19 +6,19 @@ use Rattle.schema_components.proofs.Places.{not_in_nil}
 use Rattle.schema_types.specs.Plain.{plain}
 use Rattle.schema_types.specs.Addresses.{under}
 use Rattle.rule_selections.proofs.FieldPlaces.{some_is}
-use Rattle.document_meaning.specs.MeantTree.{MeantSelection, MeantField, MeantSpread, MeantInline, MeantOperation, MeantFragment, MeantDocument}
+use Rattle.spec_document.specs.MeantTree.{MeantSelection, MeantField, MeantSpread, MeantInline, MeantOperation, MeantFragment, MeantDocument}
 use Rattle.document_typing.specs.Meanings.{meanings}
 use Rattle.rule_definitions.specs.Words.{Present}
 use Rattle.rule_definitions.specs.Judged.{judged}
 use Rattle.rule_definitions.specs.GivenValues.{Variables}
-use Rattle.rule_definitions.specs.Told.{PlacedFault}
+use Rattle.rule_definitions.specs.PlacedFaults.{PlacedFault}
 use Rattle.rule_definitions.specs.Uses.{GivenBreaks, UsesBreak}
 use Rattle.rule_document_definitions.specs.Selected.{Position, InOperation, InFragment, Standing, StandingField, spread_name, inline_condition, selection_location, selection_directives, standing_in, own}
 use Rattle.rule_document_definitions.specs.Reached.{Closed, first, next, LeadsInto, AtReached, AtReachedField, AtReachedFragment}
 use Rattle.rule_document_definitions.specs.Selections.{field_taker}
-use Rattle.rule_document_definitions.specs.Told.{place_or_built_in, places_in}
-use Rattle.rule_document_ground.specs.Reach.{Member, field_of}
-use Rattle.rule_selections.specs.Steps.{MissesSubselection, ArgumentsOfBreak, SelectionBreaks}
+use Rattle.rule_document_definitions.specs.PlacedDocumentFaults.{place_or_built_in, places_in}
+use Rattle.rule_reach.specs.Reach.{Member, field_of}
+use Rattle.rule_selections.specs.SelectionFaults.{MissesSubselection, ArgumentsOfBreak, SelectionBreaks}
 use Rattle.rule_selections.specs.Typed.{ReachesTyped}
 use Rattle.rule_selections.specs.Settled.{Terms, AreDefinedIn, filler, filled, emptied, EntersOnly, AppliesIn, IsQuiet, IsSettled, Thins, StandsInFor, StandIn}
 use Rattle.rule_selections.proofs.Elsewhere.{member, at, to_members, of_members, Look, look, outline, outline_of, bare, placed}

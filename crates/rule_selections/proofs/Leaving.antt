@@ -4,12 +4,12 @@ use Rattle.graphql_names.specs.Placed.{Place}
 use Rattle.tree_directives.specs.declared.directive_location.DirectiveLocation.TheVariants as location
 use Rattle.schema_components.proofs.Places.{not_in_nil, Contains-cons, Contains-first, Contains-rest}
 use Rattle.tree_operations.specs.SelectionTree.{FieldHead}
-use Rattle.document_meaning.specs.MeantTree.{Definition, MeantSelection, MeantField, MeantSpread, MeantInline, MeantSet, meant_set, MeantSelections, no_meant, meant_then}
+use Rattle.spec_document.specs.MeantTree.{Definition, MeantSelection, MeantField, MeantSpread, MeantInline, MeantSet, meant_set, MeantSelections, no_meant, meant_then}
 use Rattle.document_typing.specs.Meanings.{Meanings, inner_type}
 use Rattle.document_typing.specs.TypedByPlace.{IsTyped, IsSetOn, AreTyped}
 use Rattle.rule_document_definitions.specs.Selected.{InOperation}
-use Rattle.rule_document_ground.specs.Reach.{Member}
-use Rattle.rule_selections.specs.Steps.{selects_none}
+use Rattle.rule_reach.specs.Reach.{Member}
+use Rattle.rule_selections.specs.SelectionFaults.{selects_none}
 use Rattle.rule_selections.specs.Settled.{Terms, filler, filled, with_left, IsQuiet, IsSettled, IsSettledSet, AreSettled, Thins, LeavesOf, Leaves, LeavesBelow}
 use Rattle.rule_selections.proofs.Elsewhere.{along, own_members, hollow, Look, look}
 

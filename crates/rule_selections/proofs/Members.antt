@@ -13,7 +13,7 @@ use Rattle.document_typed_selections.specs.declared.selection.InlineFragment.{In
 use Rattle.document_typed_selections.specs.declared.selection.Selection.{Selection}
 use Rattle.document_typed_selections.specs.declared.selection.Selection.TheViews.{Field as Field', InlineFragment as InlineFragment'}
 use Rattle.document_typed_selections.proofs.TypedTrees.{typed_tree_field, typed_tree_inline}
-use Rattle.document_meaning.specs.MeantTree.{MeantField, MeantSpread, MeantInline, meant}
+use Rattle.spec_document.specs.MeantTree.{MeantField, MeantSpread, MeantInline, meant}
 use Rattle.schema_types.specs.SchemaTree.{SchemaTree}
 use Rattle.schema_types.specs.Plain.{plain}
 use Rattle.document_typing.specs.Meanings.{meanings}
@@ -21,9 +21,9 @@ use Rattle.document_typing.specs.TypedByPlace.{IsTyped}
 use Rattle.rule_definitions.specs.Words.{Present}
 use Rattle.rule_document_definitions.specs.Selected.{StandingField, selection_directives, selection_location}
 use Rattle.rule_definitions.proofs.Listing.{present_known}
-use Rattle.rule_document_ground.specs.Reach.{Member, field_of}
-use Rattle.rule_document_ground.proofs.Bridge.{to_map}
-use Rattle.rule_selections.specs.Steps.{standing_field, IsDefined}
+use Rattle.rule_reach.specs.Reach.{Member, field_of}
+use Rattle.rule_reach.proofs.Bridge.{to_map}
+use Rattle.rule_selections.specs.SelectionFaults.{standing_field, IsDefined}
 use Rattle.rule_selections.specs.Settled.{EntersOnly}
 
 -- ---- where its directives stand

@@ -9,11 +9,11 @@ use Rattle.std.proofs.lemmas.Slice.Eq.{bytes_eq-Decides}
 use Rattle.graphql_names.specs.NameValue.{NameValue}
 use Rattle.graphql_names.specs.Placed.{Place}
 use Rattle.document_typed_selections.specs.TypedTree.{TypedSelection, TypedField, TypedSpread, TypedInline, TypedSet, typed_set, TypedSelections, no_typed, typed_then, typed_selections}
-use Rattle.document_meaning.specs.MeantTree.{meant, meant_of_set, meant_of_all}
+use Rattle.spec_document.specs.MeantTree.{meant, meant_of_set, meant_of_all}
 use Rattle.rule_definitions.proofs.Listing.{mapped_more}
 use Rattle.rule_definitions.proofs.Lists.{not_in_nil, Contains-cons}
-use Rattle.rule_document_ground.specs.UsedNames.{with_selection}
-use Rattle.rule_document_ground.proofs.UsedNames.{StandsHere, in_both, in_none, in_selection}
+use Rattle.rule_reach.specs.UsedNames.{with_selection}
+use Rattle.rule_reach.proofs.UsedNames.{StandsHere, in_both, in_none, in_selection}
 use Rattle.rule_selections.specs.Settled.{StandsWithin, StandsInSet, StandsAlong, UsesAll}
 use Rattle.rule_selections.specs.UsedNames.{with_along, with_set, with_sets}
 use Rattle.rule_selections.specs.Within.{within, within_one, within_all}

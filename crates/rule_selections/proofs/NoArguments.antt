@@ -3,7 +3,7 @@ use Rattle.std.proofs.Common.{◌≡◌, inl, inr, []}
 use Rattle.graphql_names.specs.Placed.{Place}
 use Rattle.schema_types.specs.Addresses.{Address}
 use Rattle.rule_definitions.specs.Judged.{Judged}
-use Rattle.rule_definitions.specs.Told.{PlacedFault}
+use Rattle.rule_definitions.specs.PlacedFaults.{PlacedFault}
 use Rattle.rule_definitions.specs.GivenValues.{Variables}
 use Rattle.rule_definitions.specs.Uses.{Taker, TakerBreaks}
 use Rattle.rule_definitions.proofs.Listing.{nowhere}

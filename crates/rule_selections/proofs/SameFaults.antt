@@ -5,7 +5,7 @@ use Rattle.tree_directives.specs.declared.directive_location.DirectiveLocation.T
 use Rattle.schema_components.specs.Names.{Entries}
 use Rattle.schema_types.specs.Plain.{plain}
 use Rattle.schema_types.specs.Addresses.{TypeAt, under}
-use Rattle.document_meaning.specs.MeantTree.{MeantOperation, MeantFragment, MeantDocument}
+use Rattle.spec_document.specs.MeantTree.{MeantOperation, MeantFragment, MeantDocument}
 use Rattle.document_typing.specs.Meanings.{meanings}
 use Rattle.rule_definitions.specs.Diagnostics.{UndefinedFragment, InvalidFragmentTarget, InvalidFragmentSpread}
 use Rattle.rule_definitions.specs.Words.{Present, AtSomeIndex}
@@ -13,16 +13,16 @@ use Rattle.rule_definitions.specs.Faults.{wrong}
 use Rattle.rule_definitions.specs.Judged.{judged}
 use Rattle.rule_definitions.specs.Names.{defined_name, named_in}
 use Rattle.rule_definitions.specs.Uses.{UsesBreak}
-use Rattle.rule_definitions.specs.Told.{PlacedFault}
+use Rattle.rule_definitions.specs.PlacedFaults.{PlacedFault}
 use Rattle.rule_document_definitions.specs.Fragments.{UndefinedFragmentAt, InvalidFragmentTargetAt, InvalidFragmentSpreadAt}
 use Rattle.rule_document_definitions.specs.PossibleTypes.{IsCompositeType, IsNotComposite, MayApply}
 use Rattle.rule_document_definitions.specs.Reached.{AtReached, AtReachedField, AtReachedFragment, ReachesFragment}
 use Rattle.rule_document_definitions.specs.Selected.{InOperation, Standing, StandingField, inline_condition, spread_name, own}
 use Rattle.rule_document_definitions.specs.Selections.{SelectionsBreak}
-use Rattle.rule_document_definitions.specs.Told.{places_in}
+use Rattle.rule_document_definitions.specs.PlacedDocumentFaults.{places_in}
 use Rattle.rule_document_definitions.specs.UsedVariables.{StandsInDirectives, StandsInArguments, StandsInSelection, IsUsedIn}
 use Rattle.rule_document_definitions.specs.Variables.{VariablesBreak}
-use Rattle.rule_selections.specs.Steps.{without_subselection, MissesSubselection, ArgumentsOfBreak}
+use Rattle.rule_selections.specs.SelectionFaults.{without_subselection, MissesSubselection, ArgumentsOfBreak}
 use Rattle.rule_selections.specs.Typed.{ReachesTyped}
 use Rattle.rule_selections.specs.Settled.{Terms, AreDefinedIn, AppliesIn, StandsInFor, StandIn}
 use Rattle.rule_selections.proofs.Elsewhere.{member, outline, Look, look, has_none, bare, placed}

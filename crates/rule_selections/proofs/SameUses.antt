@@ -7,13 +7,13 @@ use Rattle.schema_types.specs.SchemaTree.{SchemaTree}
 use Rattle.schema_types.specs.Addresses.{TypeReferenceAt, place_at}
 use Rattle.rule_definitions.specs.Words.{Present, AtSomeIndex}
 use Rattle.rule_definitions.specs.Judged.{judged}
-use Rattle.rule_definitions.specs.Told.{PlacedFault}
+use Rattle.rule_definitions.specs.PlacedFaults.{PlacedFault}
 use Rattle.rule_definitions.specs.GivenValues.{Variables}
 use Rattle.rule_definitions.specs.Names.{directive_name}
 use Rattle.rule_definitions.specs.Uses.{directive_taker, UniqueDirectiveAt, UndefinedDirectiveAt, UnsupportedLocationAt, GivenBreaks, AtArgumentGiven, UndefinedArgumentAt, RequiredArgumentAt, DisallowedVariableUsageAt, UsesBreak}
-use Rattle.rule_document_definitions.specs.Told.{place_or_built_in}
-use Rattle.rule_uses.specs.Trees.{TellSamePlaces}
-use Rattle.rule_uses.proofs.ReadPlaces.{same_type_breaks}
+use Rattle.rule_document_definitions.specs.PlacedDocumentFaults.{place_or_built_in}
+use Rattle.rule_arguments.specs.Trees.{TellSamePlaces}
+use Rattle.rule_arguments.proofs.ReadPlaces.{same_type_breaks}
 
 module _ (s : SchemaTree Place) where
   pub alike : TellSamePlaces (place_or_built_in s) (place_at s)

@@ -7,21 +7,21 @@ use Rattle.tree_directives.specs.declared.directive_location.DirectiveLocation.{
 use Rattle.tree_directives.specs.declared.directive_location.DirectiveLocation.TheVariants as location
 use Rattle.schema_types.specs.SchemaTree.{SchemaTree}
 use Rattle.schema_types.specs.Addresses.{place_at}
-use Rattle.document_meaning.specs.MeantTree.{MeantOperation, MeantFragment, MeantDocument}
+use Rattle.spec_document.specs.MeantTree.{MeantOperation, MeantFragment, MeantDocument}
 use Rattle.rule_definitions.specs.Words.{Present, AtSomeIndex}
 use Rattle.rule_definitions.specs.Judged.{judged}
-use Rattle.rule_definitions.specs.Told.{PlacedFault}
+use Rattle.rule_definitions.specs.PlacedFaults.{PlacedFault}
 use Rattle.rule_definitions.specs.Uses.{UsesBreak}
 use Rattle.rule_document_definitions.specs.Selected.{StandingField, own, selection_location, selection_directives}
 use Rattle.rule_document_definitions.specs.Reached.{AtReached, AtReachedField, AtReachedFragment}
 use Rattle.rule_document_definitions.specs.Contents.{content}
 use Rattle.rule_document_definitions.specs.Selections.{SelectionsBreak}
 use Rattle.rule_document_definitions.specs.Standalone.{UsesBreakAlone, GivenInBreaks}
-use Rattle.rule_document_definitions.specs.Told.{place_or_built_in, places_in, places_alone}
-use Rattle.rule_uses.specs.Alone.{ArgumentsBreak, DirectivesAloneBreak}
-use Rattle.rule_document_ground.specs.Reach.{Member, IsReach, field_of}
-use Rattle.rule_document_ground.proofs.AtReaches.{at_reached, at_reached_field, at_reached_fragment}
-use Rattle.rule_selections.specs.Steps.{MissesSubselection, ArgumentsOfBreak, SelectionBreaks, SelectionAloneBreaks}
+use Rattle.rule_document_definitions.specs.PlacedDocumentFaults.{place_or_built_in, places_in, places_alone}
+use Rattle.rule_arguments.specs.Alone.{ArgumentsBreak, DirectivesAloneBreak}
+use Rattle.rule_reach.specs.Reach.{Member, IsReach, field_of}
+use Rattle.rule_reach.proofs.AtReaches.{at_reached, at_reached_field, at_reached_fragment}
+use Rattle.rule_selections.specs.SelectionFaults.{MissesSubselection, ArgumentsOfBreak, SelectionBreaks, SelectionAloneBreaks}
 use Rattle.rule_selections.proofs.SameUses.{same_uses}
 
 module _ (d : MeantDocument Place) (o : MeantOperation Place) (reached : List (Member Place)) (spread : List (MeantFragment Place)) (reach : IsReach d (own o) reached spread) where

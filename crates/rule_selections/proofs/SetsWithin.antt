@@ -20,7 +20,7 @@ use Rattle.document_typed_selections.specs.declared.selection.FragmentSpread.{Fr
 use Rattle.document_typed_selections.specs.declared.selection.InlineFragment.{InlineFragment}
 use Rattle.document_typed_selections.specs.declared.selection.SelectionSet.{SelectionSet}
 use Rattle.document_typed_selections.proofs.TypedTrees.{typed_set_tree_out, typed_tree_field, typed_tree_inline}
-use Rattle.document_meaning.specs.MeantTree.{meant, meant_of_set}
+use Rattle.spec_document.specs.MeantTree.{meant, meant_of_set}
 use Rattle.rule_definitions.proofs.Listing.{mapped_more}
 use Rattle.rule_selections.specs.Settled.{Terms, StandsInSet, Thins, LeavesBelow, LeavesOf, LeavesOfTyped}
 use Rattle.rule_selections.specs.Telling.{KeepsSelection, SettlesSet}

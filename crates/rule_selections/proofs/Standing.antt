@@ -14,8 +14,8 @@ use Rattle.schema_types.specs.Addresses.{under}
 use Rattle.rule_selections.proofs.FieldPlaces.{some_is}
 use Rattle.document_typed_operations.specs.TypedDocument.{TypedFragment, typed_fragment_tree}
 use Rattle.document_typed_operations.specs.declared.operation.Fragment.{Fragment}
-use Rattle.document_meaning.specs.MeantTree.{MeantFragment}
-use Rattle.rule_document_ground.specs.in_typed_operations.DocumentView.{meant_by_fragment}
+use Rattle.spec_document.specs.MeantTree.{MeantFragment}
+use Rattle.rule_reach.specs.in_typed_operations.DocumentView.{meant_by_fragment}
 use Rattle.rule_selections.specs.Settled.{Terms, fragment_meant, StandsInFor, StandIn}
 use Rattle.rule_selections.proofs.Leaving.{leaves_same}
 

@@ -4,12 +4,12 @@ use Rattle.graphql_names.specs.Placed.{Place}
 use Rattle.schema_components.specs.Names.{Entries}
 use Rattle.schema_components.proofs.Places.{not_in_nil, Contains-cons, Contains-first, Contains-rest}
 use Rattle.schema_types.specs.Addresses.{under}
-use Rattle.document_meaning.specs.MeantTree.{MeantSelection, MeantField, MeantSpread, MeantInline, MeantSet, meant_set, MeantSelections, no_meant, meant_then, MeantOperation, MeantFragment, MeantDocument}
+use Rattle.spec_document.specs.MeantTree.{MeantSelection, MeantField, MeantSpread, MeantInline, MeantSet, meant_set, MeantSelections, no_meant, meant_then, MeantOperation, MeantFragment, MeantDocument}
 use Rattle.rule_definitions.specs.Words.{Present}
 use Rattle.rule_document_definitions.specs.Selected.{Position, SelectionAt, InFragment, Standing, StandingField, spread_name, stand, standing_in, own}
 use Rattle.rule_document_definitions.specs.Reached.{first, next, Reached, LeadsInto, AtReached}
 use Rattle.rule_document_definitions.specs.UsedVariables.{StandsInArguments, StandsInDirectives}
-use Rattle.rule_document_ground.specs.Reach.{Member}
+use Rattle.rule_reach.specs.Reach.{Member}
 use Rattle.rule_selections.specs.Settled.{Terms, StandsWithin, StandsInSet, StandsAlong, StandIn}
 use Rattle.rule_selections.proofs.FieldPlaces.{some_is}
 use Rattle.rule_selections.proofs.Elsewhere.{member, at, along, own_members, to_members, of_members, Look, look}

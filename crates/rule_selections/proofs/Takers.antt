@@ -21,10 +21,10 @@ use Rattle.graphql_schema.specs.LookUps.{field_named}
 use Rattle.graphql_schema.proofs.FieldLooks.{fields_plain}
 use Rattle.document_typed_selections.specs.declared.selection.Field.{Field}
 use Rattle.rule_document_definitions.specs.Selections.{field_taker}
-use Rattle.rule_document_definitions.specs.Told.{place_or_built_in, places_in}
-use Rattle.rule_uses.specs.Trees.{arguments_of, plain_inputs, holder_of, TellsPlaces}
-use Rattle.rule_uses.specs.declared.taker.Taker.{Taker as Rust}
-use Rattle.rule_selections.specs.Steps.{standing_field, IsDefined}
+use Rattle.rule_document_definitions.specs.PlacedDocumentFaults.{place_or_built_in, places_in}
+use Rattle.rule_arguments.specs.Trees.{arguments_of, plain_inputs, holder_of, TellsPlaces}
+use Rattle.rule_arguments.specs.declared.taker.Taker.{Taker as Rust}
+use Rattle.rule_selections.specs.SelectionFaults.{standing_field, IsDefined}
 use Rattle.rule_selections.proofs.FieldPlaces.{stands, some_is}
 use Rattle.rule_selections.proofs.SameUses.{alike}
 

@@ -15,12 +15,12 @@ use Rattle.document_typed_selections.specs.declared.selection.SelectionSet.{Sele
 use Rattle.document_typed_selections.specs.declared.selection.Selection.TheViews.{Field as Field', InlineFragment as InlineFragment'}
 use Rattle.document_typed_selections.proofs.TypedTrees.{typed_tree_field, typed_tree_inline}
 use Rattle.document_typed_operations.specs.TypedDocument.{TypedFragment}
-use Rattle.document_meaning.specs.MeantTree.{MeantSelection, MeantField, MeantInline, MeantSet, meant_set, MeantSelections, no_meant, meant_then, members, meant, meant_of_set, meant_of_all}
-use Rattle.rule_document_ground.specs.in_typed_operations.DocumentView.{meant_by_fragment}
-use Rattle.rule_definitions.specs.Told.{PlacedFault}
+use Rattle.spec_document.specs.MeantTree.{MeantSelection, MeantField, MeantInline, MeantSet, meant_set, MeantSelections, no_meant, meant_then, members, meant, meant_of_set, meant_of_all}
+use Rattle.rule_reach.specs.in_typed_operations.DocumentView.{meant_by_fragment}
+use Rattle.rule_definitions.specs.PlacedFaults.{PlacedFault}
 use Rattle.rule_definitions.proofs.Room.{room_begins, room_silent}
 use Rattle.rule_definitions.proofs.Adding.{Gains}
-use Rattle.rule_selections.specs.Steps.{selects_none}
+use Rattle.rule_selections.specs.SelectionFaults.{selects_none}
 use Rattle.rule_selections.specs.Settled.{Terms, filled, with_left, IsSettled, Thins, Leaves, LeavesOfTyped, KeepsUnlessSettled, UsesAll, StandsInFor}
 
 -- where nothing was told, nothing breaks

@@ -3,7 +3,7 @@ use Rattle.std.proofs.Common.{◌≡◌, ℕ, suc, List, map, refl, sym, ap, sub
 use Rattle.std.specs.List.{cons_option}
 use Rattle.std.proofs.lemmas.Option.{same_Some}
 use Rattle.schema_components.proofs.Places.{not_in_nil, only, Contains-cons}
-use Rattle.rule_document_definitions.specs.in_document_meaning.MeantTree.{MeantSelection, MeantField, MeantSpread, MeantInline, MeantSet, meant_set, MeantSelections, no_meant, meant_then, MeantOperation, MeantFragment, MeantDocument}
+use Rattle.rule_document_definitions.specs.in_spec_document.MeantTree.{MeantSelection, MeantField, MeantSpread, MeantInline, MeantSet, meant_set, MeantSelections, no_meant, meant_then, MeantOperation, MeantFragment, MeantDocument}
 use Rattle.document_typing.specs.Meanings.{Meanings, inner_type}
 use Rattle.document_typing.specs.TypedByPlace.{IsTyped, IsSetOn, AreTyped, IsOnRoot, IsOnCondition, IsTypedDocument}
 use Rattle.rule_document_definitions.specs.Selected.{Position, InFragment, SelectionAt, Standing, StandingField, stand, standing_in, operations, fragment_named, own}

@@ -1,11 +1,11 @@
 -- Where what an operation reaches is typed: in its list, in documents that are typed, and in field sets.
 use Rattle.std.proofs.Common.{ℕ, List, subst, Contains}
-use Rattle.document_meaning.specs.MeantTree.{MeantSet, MeantOperation, MeantFragment, MeantDocument}
+use Rattle.spec_document.specs.MeantTree.{MeantSet, MeantOperation, MeantFragment, MeantDocument}
 use Rattle.document_typing.specs.Meanings.{Meanings}
 use Rattle.document_typing.specs.TypedByPlace.{IsTyped, IsSetOn, IsTypedDocument}
 use Rattle.rule_document_definitions.specs.Selected.{operations, own}
 use Rattle.rule_document_definitions.specs.FieldSets.{document_of_set}
-use Rattle.rule_document_ground.specs.Reach.{Member, IsReach}
+use Rattle.rule_reach.specs.Reach.{Member, IsReach}
 use Rattle.rule_selections.proofs.TypedReached.{typed_reached, typed_in_field_set}
 use Rattle.rule_selections.specs.Typed.{ReachesTyped}
 

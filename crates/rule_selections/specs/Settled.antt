@@ -1,4 +1,4 @@
--- Private: leads to `SelectionsBreak`. Fragments that may replace those of a document: of what they leave out, at any depth, nothing is told, and they use the same variables.
+-- Private: leads to `SelectionsBreak`. Fragments that may replace those of a document: they leave out only selections for which no fault is told, and use the same variables.
 use Rattle.std.specs.Prelude.{◌≡◌, ℕ, List, [], Contains, find, is_some, None, Some, ◌⊎◌}
 use Rattle.std.specs.Map.{lookup}
 use Rattle.std.specs.Option.{option_map_or}
@@ -18,30 +18,30 @@ use Rattle.document_typed_selections.specs.TypedTree.{TypedSelection, TypedSet, 
 use Rattle.document_typed_selections.specs.TypedParts.{set_and}
 use Rattle.document_typed_operations.specs.TypedDocument.{typed_fragment_tree}
 use Rattle.document_typed_operations.specs.declared.operation.Fragment.{Fragment}
-use Rattle.document_meaning.specs.MeantTree.{MeantSelection, MeantField, MeantSpread, MeantInline, MeantSet, meant_set, MeantSelections, no_meant, meant_then, meant_of_set, MeantFragment, MeantDocument, MeantOperation, meant}
-use Rattle.rule_document_ground.specs.in_typed_operations.DocumentView.{meant_by_fragment}
+use Rattle.spec_document.specs.MeantTree.{MeantSelection, MeantField, MeantSpread, MeantInline, MeantSet, meant_set, MeantSelections, no_meant, meant_then, meant_of_set, MeantFragment, MeantDocument, MeantOperation, meant}
+use Rattle.rule_reach.specs.in_typed_operations.DocumentView.{meant_by_fragment}
 use Rattle.document_typing.specs.Meanings.{meanings}
 use Rattle.document_typing.specs.TypedByPlace.{IsTyped}
 use Rattle.rule_definitions.specs.Words.{Present}
 use Rattle.rule_definitions.specs.GivenValues.{Variables}
 use Rattle.rule_definitions.specs.Judged.{judged}
 use Rattle.rule_definitions.specs.Names.{defined_name}
-use Rattle.rule_definitions.specs.Told.{PlacedFault}
+use Rattle.rule_definitions.specs.PlacedFaults.{PlacedFault}
 use Rattle.rule_document_definitions.specs.PossibleTypes.{IsNotComposite, MayApply}
 use Rattle.rule_document_definitions.specs.Selected.{operations}
 use Rattle.rule_document_definitions.specs.UsedVariables.{StandsInArguments, StandsInDirectives}
-use Rattle.rule_document_ground.specs.NotedNames.{noted_names}
-use Rattle.rule_document_ground.specs.Reach.{Member}
-use Rattle.rule_selections.specs.Steps.{SelectionBreaks}
+use Rattle.rule_reach.specs.NotedNames.{noted_names}
+use Rattle.rule_reach.specs.Reach.{Member}
+use Rattle.rule_selections.specs.SelectionFaults.{SelectionBreaks}
 
--- a selection of a set enters a fragment only so: it is a field, or an inline fragment without a condition, or with one for which R holds after the name of the set's type
+-- the selection is no spread; and if it is an inline fragment with a condition, R holds of the name of its set's type and the condition
 abbrev pub EntersOnly : (List ℕ → List ℕ → Type 0) → Member Place → Type 0
 EntersOnly R (t, MeantField p d h s) = Unit {0}
 EntersOnly R (t, MeantSpread p n ds) = ⊥
 EntersOnly R (t, MeantInline p None ds s) = Unit {0}
 EntersOnly R (t, MeantInline p (Some c) ds s) = R t c.it
 
--- under the name of a type a map has this one
+-- the set that a map has under the name `t` contains `c`
 abbrev pub IsNoted : {S T : Type 0} → IndexMap NameValue (IndexSet NameValue S) T → List ℕ → List ℕ → Type 0
 IsNoted m t c = Contains (option_map_or (λ names. noted_names names) (lookup (λ a. bytes_eq t a.text) m.entries) []) c
 
@@ -53,17 +53,17 @@ fragment_meant n = meant_by_fragment (node_tree typed_fragment_tree n)
 abbrev pub emptied : MeantFragment Place → MeantFragment Place
 emptied g = record g { set = meant_set g.type_condition.it no_meant }
 
--- a selection that fills a set on the type of this name, and of which nothing is told: an inline fragment without anything
+-- a selection put into an otherwise empty set on the type of this name, for which no fault is told: an inline fragment without anything in it
 abbrev pub filler : List ℕ → MeantSelection Place
 filler t = MeantInline None None [] (meant_set t no_meant)
 
--- what is left of a set; and where nothing is left of one that has selections, the filler, so that it has one
+-- what is left of a set; but if the set has selections and none is left, a set with the filler alone
 abbrev pub filled : MeantSet Place → MeantSet Place → MeantSet Place
 filled (meant_set t no_meant) left = left
 filled (meant_set t (meant_then x xs)) (meant_set u no_meant) = meant_set t (meant_then (filler t) no_meant)
 filled (meant_set t (meant_then x xs)) (meant_set u (meant_then y ys)) = meant_set u (meant_then y ys)
 
--- the selection with what is left of its set: that of a field has selections if it had any
+-- the selection with what is left of its set; the set of a field is filled, so that it has selections if it had any
 abbrev pub with_left : MeantSelection Place → MeantSet Place → MeantSelection Place
 with_left (MeantField p d h v) left = MeantField p d h (filled v left)
 with_left (MeantSpread p n ds) left = MeantSpread p n ds
@@ -71,33 +71,33 @@ with_left (MeantInline p c ds v) left = MeantInline p c ds left
 
 -- ---- variables that operations define alike
 
--- values of the one may stand where those of the other may: types are the same, and both have a default, or none
+-- two variables are alike: their types are the same, and both have a default, or none
 abbrev pub AreAlike : VariableDefinitionTree Place → VariableDefinitionTree Place → Type 0
 AreAlike x y = (unplaced_type x.ty.it ≡ unplaced_type y.ty.it) × (is_some x.default_value ≡ is_some y.default_value)
 
--- the first of its name among these variables is alike
+-- these variables contain one of its name, and the first such variable is like it (`AreAlike`)
 abbrev pub IsDefinedIn : Variables Place → Placed Place (VariableDefinitionTree Place) → Type 0
 IsDefinedIn variables x = Present (find (λ y. bytes_eq (defined_name y) (defined_name x)) variables) (λ y. AreAlike x.it y.it)
 
--- of each variable
+-- `variables` define each of the `common` ones alike
 abbrev pub AreDefinedIn : Variables Place → Variables Place → Type 0
 AreDefinedIn common variables = (x : Placed Place (VariableDefinitionTree Place)) → Contains common x → IsDefinedIn variables x
 
--- in each operation of a document
+-- each operation of the document defines the `common` variables alike
 abbrev pub AreCommon : MeantDocument Place → Variables Place → Type 0
 AreCommon d common = (o : MeantOperation Place) → Contains (operations d) o → AreDefinedIn common o.variables
 
--- the second ones are among the first, and are defined so
+-- each of the `new` variables is one of the `old`, and `variables` define it alike
 abbrev pub AreThoseDefined : Variables Place → Variables Place → Variables Place → Type 0
 AreThoseDefined variables old new = (x : Placed Place (VariableDefinitionTree Place)) → Contains new x → Contains old x × IsDefinedIn variables x
 
--- this one was added, if it is defined so
+-- each of the `new` variables is one of the `old`, or it is `x` and `variables` define it alike
 abbrev pub KeepsIfDefined : Variables Place → Placed Place (VariableDefinitionTree Place) → Variables Place → Variables Place → Type 0
 KeepsIfDefined variables x old new = (y : Placed Place (VariableDefinitionTree Place)) → Contains new y → Contains old y ⊎ ((x ≡ y) × IsDefinedIn variables y)
 
 -- ---- variables that are used
 
--- the variable stands in a selection or in what it selects, at any depth; what is spread is not entered
+-- the variable `n` is in a selection or in what it selects, at any depth; fragments that are spread are not entered
 module _ (n : List ℕ) where
   abbrev mutual
     pub StandsWithin : MeantSelection Place → Type 0
@@ -112,33 +112,33 @@ module _ (n : List ℕ) where
     StandsAlong no_meant = ⊥
     StandsAlong (meant_then x xs) = StandsWithin x ⊎ StandsAlong xs
 
--- what stands in the second set stands in the first
+-- each variable that is in `whole` is in `left`
 abbrev pub UsesAll : MeantSet Place → MeantSet Place → Type 0
 UsesAll left whole = (n : List ℕ) → StandsInSet n whole → StandsInSet n left
 
 -- ---- what may be left out
 
 module _ (s : SchemaTree Place) where
-  -- of an inline fragment with this condition nothing is told in a set on the type: it is on no type without fields, and may apply there
+  -- an inline fragment on `c` applies in a set on `t`: `c` is no type without fields, and a fragment on it may apply there
   abbrev pub AppliesIn : List ℕ → List ℕ → Type 0
   AppliesIn t c = (IsNotComposite (judged s) c → ⊥) × MayApply (judged s) t c
 
-  -- so it is with what a map has under names of types
+  -- each `c` that the map has under a name `t` applies in sets on `t`
   abbrev pub ApplyWhereNoted : {S T : Type 0} → IndexMap NameValue (IndexSet NameValue S) T → Type 0
   ApplyWhereNoted m = (t c : List ℕ) → IsNoted m t c → AppliesIn t c
 
--- what operations have in common: a schema, and variables that each defines so
+-- what the operations of a document have in common: the schema, and variables that each of them defines alike
 pub record Terms : Type 0 where
   pub schema : SchemaTree Place
   pub variables : Variables Place
 
 module _ (s : Terms) where
-  -- the selection by itself enters a fragment only where that applies; and where it is typed, it breaks no rule where there are these variables
+  -- the selection itself is no spread, and no inline fragment that does not apply; and if it is typed, it breaks no rule under these variables
   pub record IsQuiet (e : Member Place) : Type 0 where
     pub enters : EntersOnly (AppliesIn s.schema) e
     pub keeps : IsTyped (meanings (plain s.schema)) e.0 e.1 → (f : PlacedFault) → SelectionBreaks s.schema s.variables e f → ⊥
 
-  -- a selection of a set on the type of this name is quiet, and all that it selects, at any depth
+  -- the selection, in a set on the type of this name, is quiet, and so is all that it selects, at any depth
   abbrev mutual
     pub IsSettled : List ℕ → MeantSelection Place → Type 0
     IsSettled t (MeantField p d h v) = IsQuiet (t, MeantField p d h v) × IsSettledSet v
@@ -152,54 +152,54 @@ module _ (s : Terms) where
     AreSettled t no_meant = Unit {0}
     AreSettled t (meant_then x xs) = IsSettled t x × AreSettled t xs
 
-  -- the second is the first, maybe without selections in it that are settled, at any depth
+  -- the second selection is the first, from which settled selections may be left out, at any depth; the set of a field is filled then
   abbrev mutual
     pub Thins : MeantSelection Place → MeantSelection Place → Type 0
     Thins (MeantField p d h v) y = (w : MeantSet Place) × (LeavesOf v w × (y ≡ MeantField p d h (filled v w)))
     Thins (MeantSpread p n ds) y = y ≡ MeantSpread p n ds
     Thins (MeantInline p c ds v) y = (w : MeantSet Place) × (LeavesOf v w × (y ≡ MeantInline p c ds w))
 
-    -- of a set
+    -- the second set is the first, from which settled selections may be left out, at any depth
     pub LeavesOf : MeantSet Place → MeantSet Place → Type 0
     LeavesOf (meant_set t ss) w = (ws : MeantSelections Place) × ((w ≡ meant_set t ws) × Leaves t ss ws)
 
-    -- of the selections of a set on the type of this name, in order: each is settled and left out, or stays
+    -- the same for the selections of a set on the type of this name, in order: each is settled and left out, or stays, with what is left of its set
     pub Leaves : List ℕ → MeantSelections Place → MeantSelections Place → Type 0
     Leaves t no_meant ws = ws ≡ no_meant
     Leaves t (meant_then x xs) ws =
         (IsSettled t x × Leaves t xs ws)
         ⊎ ((y : MeantSelection Place) × ((ys : MeantSelections Place) × ((ws ≡ meant_then y ys) × (Thins x y × Leaves t xs ys))))
 
-  -- of the set of a selection; a spread has none
+  -- the set is what is left of the selection's own set; a spread has none, so any set will do
   abbrev pub LeavesBelow : MeantSelection Place → MeantSet Place → Type 0
   LeavesBelow (MeantField p d h v) w = LeavesOf v w
   LeavesBelow (MeantSpread p n ds) w = Unit {0}
   LeavesBelow (MeantInline p c ds v) w = LeavesOf v w
 
-  -- of a typed set, on the same type
+  -- the same for typed sets, on the same type
   abbrev pub LeavesOfTyped : TypedSet Place → TypedSet Place → Type 0
   LeavesOfTyped old new = (set_type new ≡ set_type old) × LeavesOf (meant_of_set old) (meant_of_set new)
 
-  -- what stays of a selection of a set on this type is put last; or the selection is settled, and the set stays as it was
+  -- what stays of the selection of a set on this type is appended; or the selection is settled, and the set is unchanged
   abbrev pub KeepsUnlessSettled : List ℕ → TypedSelection Place → TypedSet Place → TypedSet Place → Type 0
   KeepsUnlessSettled ty x old new =
       ((y : TypedSelection Place) × ((new ≡ set_and (typed_then y no_typed) old) × Thins (meant x) (meant y)))
       ⊎ ((new ≡ old) × IsSettled ty (meant x))
 
-  -- the fragment, maybe without selections that are settled; the variables that it uses, it uses still
+  -- `h` is the fragment `g`, from which settled selections may be left out, at any depth; it uses all variables that `g` uses
   abbrev pub StandsInFor : MeantFragment Place → MeantFragment Place → Type 0
   StandsInFor h g = (emptied h ≡ emptied g) × (LeavesOf g.set h.set × UsesAll h.set g.set)
 
-  -- under each name is what may replace the fragment of that name, and no more
+  -- `instead` has names where `fragments` has names, and under each a fragment that may replace the one of that name
   pub record StandIn (fragments instead : Entries (MeantFragment Place)) : Type 0 where
     pub there : (n : List ℕ) (g : MeantFragment Place) → under n fragments ≡ Some g → (h : MeantFragment Place) × ((under n instead ≡ Some h) × StandsInFor h g)
     pub absent : (n : List ℕ) → under n fragments ≡ None → under n instead ≡ None
 
 module _ (s : SchemaTree Place) where
-  -- in an operation with these variables: where some are common that it defines so
+  -- `instead` may replace `fragments` in an operation with these variables, for some `common` variables that these define alike
   abbrev pub StandInWith : Variables Place → (fragments instead : Entries (MeantFragment Place)) → Type 0
   StandInWith variables fragments instead = (common : Variables Place) × (AreDefinedIn common variables × StandIn (record { schema = s; variables = common }) fragments instead)
 
-  -- in each operation of a document
+  -- `instead` may replace the fragments of the document in each of its operations
   abbrev pub StandInEach : MeantDocument Place → Entries (MeantFragment Place) → Type 0
   StandInEach d instead = (o : MeantOperation Place) → Contains (operations d) o → StandInWith o.variables d.fragments instead

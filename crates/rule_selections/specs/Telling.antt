@@ -1,4 +1,4 @@
--- Private: leads to `SelectionsBreak`. What the checks of fields, selections and fragments add, and what settles a fragment, as the program has it.
+-- Private: leads to `SelectionsBreak`. What the checks of fields, selections and fragments add, and what settles a fragment, in terms of the program's types.
 use Rattle.std.specs.Prelude.{List, Vec, Contains}
 use Rattle.std.specs.declared.alloc.Global.{Global}
 use Rattle.graphql_names.specs.Node.{content}
@@ -15,30 +15,30 @@ use Rattle.document_typed_selections.specs.declared.selection.Selection.{Selecti
 use Rattle.document_typed_selections.specs.declared.selection.SelectionSet.{SelectionSet}
 use Rattle.document_typed_operations.specs.TypedDocument.{typed_fragment_tree}
 use Rattle.document_typed_operations.specs.declared.operation.Fragment.{Fragment}
-use Rattle.document_meaning.specs.MeantTree.{MeantFragment, meant, meant_of_set}
+use Rattle.spec_document.specs.MeantTree.{MeantFragment, meant, meant_of_set}
 use Rattle.document_typing.specs.Meanings.{meanings}
 use Rattle.document_typing.specs.TypedByPlace.{IsTyped}
 use Rattle.fault_data.specs.Adds.{Adds}
 use Rattle.fault_data.specs.declared.fault.Fault.{Fault}
-use Rattle.rule_uses.specs.in_rule_values.Wanting.{variables_of}
+use Rattle.rule_arguments.specs.in_rule_values.Wanting.{variables_of}
 use Rattle.rule_definitions.specs.GivenValues.{Variables}
 use Rattle.rule_definitions.specs.Judged.{judged}
 use Rattle.rule_definitions.specs.Uses.{TakerBreaks, UsesBreak}
 use Rattle.rule_definitions.specs.Words.{AtSomeIndex}
 use Rattle.rule_document_definitions.specs.Selected.{StandingField}
 use Rattle.rule_document_definitions.specs.Selections.{field_taker}
-use Rattle.rule_document_definitions.specs.Told.{place_or_built_in, places_in}
-use Rattle.rule_document_ground.specs.Reach.{Member}
+use Rattle.rule_document_definitions.specs.PlacedDocumentFaults.{place_or_built_in, places_in}
+use Rattle.rule_reach.specs.Reach.{Member}
 use Rattle.graphql_schema.specs.SchemaOf.{schema_tree}
 use Rattle.rule_selections.specs.Settled.{Terms, UsesAll, ApplyWhereNoted, IsSettled, LeavesBelow, LeavesOfTyped, KeepsUnlessSettled, StandIn}
-use Rattle.rule_selections.specs.Steps.{IsDefined, FieldBreaks, SelectionBreaks}
+use Rattle.rule_selections.specs.SelectionFaults.{IsDefined, FieldBreaks, SelectionBreaks}
 use Rattle.rule_selections.specs.declared.common.Common.{Common}
 
--- faults
+-- a list of faults
 abbrev pub Faults : Type 0
 Faults = Vec Fault Global
 
--- what operations have in common; and the conditions that are noted there apply
+-- what operations have in common, as contracts see it; and that the inline fragments with the noted conditions apply
 abbrev pub terms_of : Common → Terms
 terms_of common = record { schema = schema_tree common.schema.now; variables = variables_of common.variables.now }
 
@@ -51,21 +51,21 @@ member_there parent selection = (parent.text, meant (typed_selection_tree select
 
 module _ (s : SchemaTree Place) where
   module _ (variables : Variables Place) where
-    -- of a field that has the definition on the type around it: the faults of what is given by that; and all of a field
+    -- if the field has the definition of its parent type, the faults of its arguments by that definition are added; all faults of the field
     abbrev pub AddsTaken : StandingField Place → Faults → Faults → Type 0
     AddsTaken x old new = IsDefined s x → Adds old new (TakerBreaks (place_or_built_in s) (judged s) variables (field_taker (places_in s) x))
 
     abbrev pub AddsOfField : StandingField Place → Faults → Faults → Type 0
     AddsOfField x old new = IsDefined s x → Adds old new (FieldBreaks s variables x)
 
-    -- of a selection that is typed there, and of each of these
+    -- if the selection is typed, its faults are added; those of several selections, if all are typed
     abbrev pub AddsOfSelection : Member Place → Faults → Faults → Type 0
     AddsOfSelection e old new = IsTyped (meanings (plain s)) e.0 e.1 → Adds old new (SelectionBreaks s variables e)
 
     abbrev pub AddsOfSelections : List (Member Place) → Faults → Faults → Type 0
     AddsOfSelections es old new = ((e : Member Place) → Contains es e → IsTyped (meanings (plain s)) e.0 e.1) → Adds old new (λ f. AtSomeIndex es (λ i e. SelectionBreaks s variables e f))
 
-    -- of the directives of a fragment, and of each of these
+    -- the faults of the directives of a fragment are added; those of the directives of several fragments
     abbrev pub AddsOfFragment : Node Fragment → Faults → Faults → Type 0
     AddsOfFragment n old new = Adds old new (UsesBreak (place_at s) (judged s) variables location.FragmentDefinition (typed_fragment_tree (content n)).directives)
 
@@ -73,18 +73,18 @@ module _ (s : SchemaTree Place) where
     AddsOfFragments fragments old new = Adds old new (λ f. AtSomeIndex fragments (λ i x. UsesBreak (place_at s) (judged s) variables location.FragmentDefinition x.directives f))
 
 module _ (s : Terms) where
-  -- what stays of a selection is put last, or nothing is told of it and of what it selects
+  -- what stays of the selection is appended, or the selection is settled and left out
   abbrev pub KeepsSelection : NameValue → Selection → SelectionSet → SelectionSet → Type 0
   KeepsSelection ty selection old new = KeepsUnlessSettled s ty.text (typed_selection_tree selection) (typed_set_tree old) (typed_set_tree new)
 
-  -- if this is what is left of the set of a selection, nothing is told of the selection and of what it selects
+  -- if `left` is what is left of the selection's own set, the selection is settled
   abbrev pub SettlesIfLeft : NameValue → Selection → SelectionSet → Type 0
   SettlesIfLeft ty selection left = LeavesBelow s (meant (typed_selection_tree selection)) (meant_of_set (typed_set_tree left)) → IsSettled s ty.text (meant (typed_selection_tree selection))
 
-  -- if the old ones may stand in for these, so may the new ones
+  -- if the `old` fragments may replace these, so may the `new` ones
   abbrev pub StillStandIn : (fragments old new : Entries (MeantFragment Place)) → Type 0
   StillStandIn fragments old new = StandIn s fragments old → StandIn s fragments new
 
-  -- what is left of a set uses the same variables
+  -- `left` is what is left of the set, and uses all variables that the set uses
   abbrev pub SettlesSet : SelectionSet → SelectionSet → Type 0
   SettlesSet whole left = LeavesOfTyped s (typed_set_tree whole) (typed_set_tree left) × UsesAll (meant_of_set (typed_set_tree left)) (meant_of_set (typed_set_tree whole))

@@ -1,5 +1,5 @@
--- Private: leads to `IsTypedUnder` and `IsTypedSet`. What an operation reaches is typed by its place: so it is in a document that is typed, and in a field set.
-use Rattle.document_meaning.specs.MeantTree.{MeantOperation, MeantDocument}
+-- Private: leads to `IsTypedUnder` and `IsTypedSet`. Each selection that an operation reaches is typed under its parent type, as in a typed document or set.
+use Rattle.spec_document.specs.MeantTree.{MeantOperation, MeantDocument}
 use Rattle.document_typing.specs.Meanings.{Meanings}
 use Rattle.document_typing.specs.TypedByPlace.{IsTyped}
 use Rattle.rule_document_definitions.specs.Selected.{Standing}

@@ -1,26 +1,25 @@
 //! Rules on each selection that an operation reaches, without a schema.
 ghost use Rattle.std.specs.Prelude.{OnOk};
-ghost use Rattle.graphql_names.specs.Node.{content};
 ghost use Rattle.graphql_names.specs.NameValue.{NameValue};
 ghost use Rattle.graphql_names.specs.Placed.{Place, node_tree};
 ghost use Rattle.fault_data.specs.Adds.{Adds};
 ghost use Rattle.rule_definitions.specs.Words.{AtSomeIndex};
-ghost use Rattle.rule_uses.specs.in_rule_values.Wanting.{variables_of};
-ghost use Rattle.document_meaning.specs.MeantTree.{MeantDocument, meant};
+ghost use Rattle.rule_arguments.specs.in_rule_values.Wanting.{variables_of};
+ghost use Rattle.spec_document.specs.MeantTree.{MeantDocument, meant};
 ghost use Rattle.document_typed_selections.specs.TypedTree.{typed_selection_tree};
-ghost use Rattle.document_typed_operations.specs.TypedDocument.{typed_fragment_tree, typed_operation_tree};
-ghost use Rattle.rule_document_ground.specs.in_typed_operations.DocumentView.{meant_by_operation};
+ghost use Rattle.document_typed_operations.specs.TypedDocument.{typed_operation_tree};
+ghost use Rattle.rule_reach.specs.in_typed_operations.DocumentView.{meant_by_operation};
 ghost use Rattle.rule_document_definitions.specs.Standalone.{GivenInBreaks};
-ghost use Rattle.rule_document_definitions.specs.Told.{places_alone};
-ghost use Rattle.rule_document_ground.specs.Reach.{reached_members, reached_fragments_of, IsReachOf};
-ghost use Rattle.rule_uses.specs.Alone.{DirectivesAloneBreak};
-ghost use Rattle.rule_selections.specs.Steps.{SelectionAloneBreaks};
+ghost use Rattle.rule_document_definitions.specs.PlacedDocumentFaults.{places_alone};
+ghost use Rattle.rule_reach.specs.Reach.{reached_members, reached_fragments_of, IsReachOf};
+ghost use Rattle.rule_arguments.specs.Alone.{DirectivesAloneBreak};
+ghost use Rattle.rule_selections.specs.SelectionFaults.{SelectionAloneBreaks};
 
-use document_typed_operations::{Fragment, Operation};
+use document_typed_operations::Operation;
 use document_typed_selections::Selection;
 use graphql_names::Node;
-use rule_document_ground::Reach;
-use rule_uses::{Fault, check_arguments_alone, check_directives_alone};
+use rule_arguments::{Fault, check_arguments_alone, check_directives_alone};
+use rule_reach::Reach;
 use std::alloc::AllocError;
 use tree_operations::VariableDefinition;
 
@@ -58,28 +57,18 @@ fn check_each_selection_alone(reach: &Reach<'_>, faults: &mut Vec<Fault>) -> Res
     Ok(())
 }
 
-/// Adds the faults of the directives of a fragment.
-fn check_fragment_alone(
-    fragment: &Node<Fragment>,
-    faults: &mut Vec<Fault>,
-) -> Result<(), AllocError>
-    ensures { OnOk result (Adds faults.old faults.new (DirectivesAloneBreak (typed_fragment_tree (content fragment.now)).directives)) }
-{
-    check_directives_alone(&fragment.content().directives.0, faults)
-}
-
 /// Adds the faults of the directives of each fragment.
 fn check_fragments_alone(reach: &Reach<'_>, faults: &mut Vec<Fault>) -> Result<(), AllocError>
     ensures { OnOk result (Adds faults.old faults.new (λ f. AtSomeIndex (reached_fragments_of reach.now) (λ i x. DirectivesAloneBreak x.directives f))) }
 {
     for index in 0..reach.fragments.len() {
-        check_fragment_alone(reach.fragments[index], faults)?;
+        check_directives_alone(&reach.fragments[index].content().directives.0, faults)?;
     }
     Ok(())
 }
 
-/// Adds the faults that hold without a schema of what an operation reaches: UniqueArgument and UniqueInputValue of what is
-/// given to fields and directives, and UndefinedDirective of each directive, of those of the variables too.
+/// Adds the faults of what an operation reaches that need no schema: UniqueArgument and UniqueInputValue for the arguments of
+/// fields and directives, and UndefinedDirective for each directive, those of the variables included.
 pub fn check_selections_alone(
     operation: &Node<Operation>,
     reach: &Reach<'_>,

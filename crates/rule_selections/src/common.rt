@@ -1,15 +1,15 @@
 //! What the operations of a document have in common: variables that each of them defines alike.
-ghost use Rattle.std.specs.Prelude.{◌≡◌, is_some, IfOk, IsTrue, OnOk};
+ghost use Rattle.std.specs.Prelude.{IfOk, IsTrue, OnOk};
 ghost use Rattle.graphql_names.specs.Placed.{node_tree};
 ghost use Rattle.tree_operations.specs.OperationTree.{variable_definition_tree};
-ghost use Rattle.rule_uses.specs.in_rule_values.Wanting.{variables_of};
-ghost use Rattle.rule_document_ground.specs.in_typed_operations.DocumentView.{document_meant, operation_meant};
+ghost use Rattle.rule_arguments.specs.in_rule_values.Wanting.{variables_of};
+ghost use Rattle.rule_reach.specs.in_typed_operations.DocumentView.{document_meant, operation_meant};
 ghost use Rattle.rule_selections.specs.Settled.{AreAlike, IsDefinedIn, AreCommon, AreThoseDefined, KeepsIfDefined};
 
 use document_typed_operations::{ExecutableDocument, Operation};
 use graphql_names::{Name, Node};
 use indexmap::{IndexMap, IndexSet};
-use rule_uses::{DefinedVariables, IndexedSchema};
+use rule_arguments::{DefinedVariables, IndexedSchema};
 use std::alloc::{AllocError, Global};
 use tree_operations::VariableDefinition;
 
@@ -19,27 +19,15 @@ pub(crate) struct Common<'a> {
     pub(crate) schema: &'a IndexedSchema<'a>,
     /// Variables that each operation defines alike.
     pub(crate) variables: &'a DefinedVariables<'a>,
-    /// Under names of types, conditions of inline fragments that may apply there.
+    /// Under the name of a type, conditions of inline fragments that may apply in sets on it.
     pub(crate) applying: &'a IndexMap<Name, IndexSet<Name>>,
 }
 
-/// Whether both variables have a default, or none has.
-fn have_defaults_alike(a: &VariableDefinition, b: &VariableDefinition) -> bool
-    ensures { IsTrue result → is_some a.now.default_value ≡ is_some b.now.default_value }
-{
-    if a.default_value.is_some() {
-        b.default_value.is_some()
-    } else {
-        b.default_value.is_none()
-    }
-}
-
-/// Whether values of the one variable may stand where those of the other may: the types are equal, and both have a default, or
-/// none has.
+/// Whether each variable may be used instead of the other: their types are equal, and both have a default, or none has.
 fn are_alike(a: &VariableDefinition, b: &VariableDefinition) -> bool
     ensures { IsTrue result → AreAlike (variable_definition_tree a.now) (variable_definition_tree b.now) }
 {
-    if !have_defaults_alike(a, b) {
+    if a.default_value.is_some() != b.default_value.is_some() {
         return false;
     }
     let ty = a.ty.content();
@@ -47,7 +35,7 @@ fn are_alike(a: &VariableDefinition, b: &VariableDefinition) -> bool
     ty.is_assignable_to(other) && other.is_assignable_to(ty)
 }
 
-/// Whether the first of its name among these variables is alike.
+/// Whether the first variable of its name among these is alike.
 fn is_defined_in(variable: &Node<VariableDefinition>, variables: &DefinedVariables<'_>) -> bool
     ensures { IsTrue result → IsDefinedIn (variables_of variables.now) (node_tree variable_definition_tree variable.now) }
 {
@@ -58,7 +46,7 @@ fn is_defined_in(variable: &Node<VariableDefinition>, variables: &DefinedVariabl
     }
 }
 
-/// Adds the variable, if it is defined so among these.
+/// Adds the variable, if these define it alike.
 fn keep_if_defined(
     variables: &DefinedVariables<'_>,
     variable: &Node<VariableDefinition>,
@@ -73,7 +61,7 @@ fn keep_if_defined(
     Ok(())
 }
 
-/// Those of the variables that the operation defines so.
+/// Those of the variables that the operation defines alike.
 fn defined_by(
     alloc: Global,
     operation: &Node<Operation>,
@@ -89,7 +77,7 @@ fn defined_by(
     Ok(kept)
 }
 
-/// Keeps those of the variables that each operation of the document defines so.
+/// Keeps those of the variables that each operation of the document defines alike.
 fn keep_common(
     alloc: Global,
     document: &ExecutableDocument,
@@ -104,26 +92,18 @@ fn keep_common(
     Ok(())
 }
 
-/// The variables of the first operation.
-fn first_variables(
-    alloc: Global,
-    document: &ExecutableDocument,
-) -> Result<Vec<Node<VariableDefinition>>, AllocError> {
-    match document.operations.iter().next() {
-        None => Ok(Vec::new(alloc)),
-        Some(operation) => operation.content().variables.clone(),
-    }
-}
-
-/// The variables of the first operation that each operation of the document defines alike. It takes time in the length of the
-/// document: no more variables stay than the shortest list has.
+/// The variables of the first operation that each operation of the document defines alike. The time is linear in the length of
+/// the document: no more variables stay than the shortest list has.
 pub(crate) fn common_variables(
     alloc: Global,
     document: &ExecutableDocument,
 ) -> Result<Vec<Node<VariableDefinition>>, AllocError>
     ensures { IfOk result (λ r. AreCommon (document_meant document.now) (variables_of r.items)) }
 {
-    let mut common = first_variables(alloc, document)?;
+    let mut common = match document.operations.iter().next() {
+        None => Vec::new(alloc),
+        Some(operation) => operation.content().variables.clone()?,
+    };
     keep_common(alloc, document, &mut common)?;
     Ok(common)
 }

@@ -8,21 +8,21 @@ ghost use Rattle.graphql_schema.specs.SchemaOf.{schema_tree};
 ghost use Rattle.fault_data.specs.FaultView.{fault_of};
 ghost use Rattle.fault_data.specs.Adds.{Adds};
 ghost use Rattle.rule_definitions.specs.Judged.{judged};
-ghost use Rattle.rule_uses.specs.in_rule_values.Telling.{Tells};
-ghost use Rattle.rule_uses.specs.in_rule_values.Wanting.{variables_of};
-ghost use Rattle.rule_selections.specs.Steps.{standing_field, missing_subselection, without_subselection};
+ghost use Rattle.rule_arguments.specs.in_rule_values.Telling.{Tells};
+ghost use Rattle.rule_arguments.specs.in_rule_values.Wanting.{variables_of};
+ghost use Rattle.rule_selections.specs.SelectionFaults.{standing_field, missing_subselection, without_subselection};
 ghost use Rattle.rule_selections.specs.Telling.{AddsTaken, AddsOfField};
 
 use document_typed_selections::Field;
 use graphql_names::{Name, Node};
-use rule_uses::{
+use rule_arguments::{
     DefinedVariables, DiagnosticData, Fault, IndexedSchema, Schema, Taker, TakerName,
     TypeAttributeCoordinate, check_given, check_taken, tell,
 };
 use schema_types::TypeKind;
 use std::alloc::AllocError;
 
-/// The kind of the type of that name, if it is there.
+/// The kind of the type of that name, if it is defined.
 fn kind_named(schema: &Schema, name: &Name) -> Option<TypeKind>
     ensures { result ≡ option_map (λ t. t.kind) (type_at (schema_tree schema.now) name.now.text) }
 {
@@ -32,7 +32,7 @@ fn kind_named(schema: &Schema, name: &Name) -> Option<TypeKind>
     }
 }
 
-/// Whether values of such types have fields: objects, interfaces and unions.
+/// Whether values of types of this kind have fields: objects, interfaces and unions.
 fn is_composite(kind: TypeKind) -> bool
     ensures { result ≡ (is_output_kind kind && not (is_leaf_kind kind)) }
 {
@@ -58,7 +58,7 @@ fn missing_subselection(
     }
 }
 
-/// What is told of a field of such a type that selects nothing.
+/// What is told of a field that selects nothing though its type, of this kind, has fields.
 fn told_missing(parent: &Name, field: &Node<Field>, kind: TypeKind) -> Result<Fault, AllocError>
     ensures { IfOk result (λ r. fault_of r ≡ without_subselection (standing_field parent.now field.now) kind) }
 {
@@ -92,7 +92,7 @@ fn is_without_arguments(field: &Field) -> bool
     field.arguments.is_empty() && field.definition.content().arguments.is_empty()
 }
 
-/// Adds the faults of what is given by the definition of the field on the type around it.
+/// Adds the faults of the field's arguments by its definition on its parent type.
 fn check_defined(
     schema: &IndexedSchema<'_>,
     parent: &Name,
@@ -120,7 +120,7 @@ fn check_defined(
     check_taken(schema, &taker, variables, faults)
 }
 
-/// Adds the faults of a field: MissingSubselection, and the rules on its arguments, apart from their directives.
+/// Adds the faults of a field: MissingSubselection, and those of its arguments, but not those of its directives.
 pub(crate) fn check_field(
     schema: &IndexedSchema<'_>,
     parent: &Name,

@@ -6,9 +6,9 @@
 //! What is reached in a typed document, or in a typed field set, is typed (`proofs/TypedReached.antt`).
 //!
 //! What operations share is judged once: `settled_fragments` gives what replaces the fragments of a document (`StandIn` of
-//! `specs/Settled.antt`), each without those of its selections, at any depth, of which nothing is told, under the variables that
-//! all operations define alike, and which use no variable but those that what is left of the fragment uses. So a walk from an
-//! operation does not meet them, and the same is told (`proofs/SameFaults.antt`).
+//! `specs/Settled.antt`): fragments without those selections, at any depth, for which no fault is told under the variables that
+//! all operations define alike, and whose variables the rest of the fragment uses too. So a walk from an operation does not
+//! meet these selections, and still tells the same (`proofs/SameFaults.antt`).
 //!
 //! Begin with `selections.rt`, then `fields.rt`; `settled.rt`, then `thinned.rt`, `within.rt`, `quiet.rt`,
 //! `common.rt` and `used.rt`.
@@ -28,5 +28,5 @@ pub use alone::check_selections_alone;
 pub use selections::check_selections;
 pub use settled::settled_fragments;
 
-// Of the crates beneath, for those above.
-pub use rule_uses::{IndexedSchema, SchemaInputs};
+// Of the crates below, for those above.
+pub use rule_arguments::{IndexedSchema, SchemaInputs};

@@ -1,6 +1,5 @@
-//! Whether of a selection by itself nothing is told, whatever operation reaches it.
-ghost use Rattle.std.specs.Prelude.{◌≡◌, ◌↔◌, [], IfOk, IsTrue};
-ghost use Rattle.fault_data.specs.FaultView.{faults_of};
+//! Whether no fault is told for a selection itself, whatever operation reaches it.
+ghost use Rattle.std.specs.Prelude.{IfOk, IsTrue};
 ghost use Rattle.rule_selections.specs.Settled.{EntersOnly, IsNoted, IsQuiet};
 ghost use Rattle.rule_selections.specs.Telling.{member_there, terms_of, IsRight};
 
@@ -10,8 +9,7 @@ use crate::used::uses_new;
 use document_typed_selections::Selection;
 use graphql_names::Name;
 use indexmap::IndexSet;
-use rule_document_ground::has_name;
-use rule_uses::Fault;
+use rule_reach::has_name;
 use std::alloc::{AllocError, Global};
 use tree_literals::NamedType;
 
@@ -25,7 +23,7 @@ fn applies(common: &Common<'_>, ty: &Name, condition: &Name) -> bool
     }
 }
 
-/// Whether the selection of a set on that type enters no fragment, or an inline one without a condition, or with one that
+/// Whether the selection of a set on that type is a field, or an inline fragment without a condition or with one that
 /// applies there.
 fn enters_well(common: &Common<'_>, ty: &NamedType, selection: &Selection) -> bool
     ensures { IsTrue result → EntersOnly (IsNoted common.now.applying.now) (member_there ty.now selection.now) }
@@ -40,10 +38,10 @@ fn enters_well(common: &Common<'_>, ty: &NamedType, selection: &Selection) -> bo
     }
 }
 
-/// How many faults are told of the selections of a fragment before the others are not judged any more: they stay.
+/// After so many faults in the selections of a fragment the others are not judged any more: they stay.
 const MOST_JUDGED: usize = 4_000;
 
-/// What was met in the selections of a fragment: the variables that those use which stay, and how many faults were told.
+/// What was found in the selections of a fragment: variables used by those that stay, and how many faults were told.
 #[derive(Drop)]
 pub(crate) struct Met {
     used: IndexSet<Name>,
@@ -51,7 +49,7 @@ pub(crate) struct Met {
 }
 
 impl Met {
-    /// Nothing.
+    /// Nothing found yet.
     pub(crate) fn new(alloc: Global) -> Met {
         Met {
             used: IndexSet::new(alloc),
@@ -60,15 +58,8 @@ impl Met {
     }
 }
 
-/// Whether there is nothing to tell.
-fn is_nothing(faults: &Vec<Fault>) -> bool
-    ensures { IsTrue result ↔ (faults_of faults.now ≡ []) }
-{
-    faults.is_empty()
-}
-
-/// Whether the selection itself, under that type, breaks no rule where there are the common variables, and enters a fragment
-/// only where that applies; what it selects is not judged. So it breaks none in any operation.
+/// Whether the selection itself, in a set on that type, breaks no rule under the common variables, and enters a fragment
+/// only if that applies; what it selects is not judged. Then it breaks no rule in any operation.
 fn is_quiet(
     alloc: Global,
     common: &Common<'_>,
@@ -85,11 +76,11 @@ fn is_quiet(
     let mut faults = Vec::new(alloc);
     check_selection(common.schema, ty, selection, common.variables, &mut faults)?;
     *told = told.saturating_add(faults.len());
-    Ok(is_nothing(&faults))
+    Ok(faults.is_empty())
 }
 
-/// Whether that holds of a selection that may be left out: its own variables are used by what stays. They are noted, so a
-/// selection that uses a variable first stays.
+/// Whether a quiet selection may be left out: the variables that it uses itself are noted already. It notes them, so the
+/// first selection that uses a variable stays.
 pub(crate) fn may_go(
     alloc: Global,
     common: &Common<'_>,

@@ -6,17 +6,17 @@ ghost use Rattle.schema_types.specs.Plain.{plain};
 ghost use Rattle.graphql_schema.specs.SchemaOf.{schema_tree};
 ghost use Rattle.fault_data.specs.Adds.{Adds};
 ghost use Rattle.rule_definitions.specs.Judged.{judged};
-ghost use Rattle.rule_uses.specs.in_rule_values.Wanting.{variables_of};
+ghost use Rattle.rule_arguments.specs.in_rule_values.Wanting.{variables_of};
 ghost use Rattle.tree_directives.specs.declared.directive_location.DirectiveLocation.TheVariants as location;
-ghost use Rattle.document_meaning.specs.MeantTree.{MeantDocument, meant};
+ghost use Rattle.spec_document.specs.MeantTree.{MeantDocument, meant};
 ghost use Rattle.document_typed_selections.specs.TypedTree.{typed_selection_tree};
 ghost use Rattle.document_typed_operations.specs.TypedDocument.{typed_operation_tree};
-ghost use Rattle.rule_document_ground.specs.in_typed_operations.DocumentView.{meant_by_operation};
+ghost use Rattle.rule_reach.specs.in_typed_operations.DocumentView.{meant_by_operation};
 ghost use Rattle.document_typing.specs.Meanings.{meanings};
 ghost use Rattle.rule_document_definitions.specs.Selected.{selection_location};
 ghost use Rattle.rule_document_definitions.specs.Selections.{SelectionsBreak};
-ghost use Rattle.rule_document_definitions.specs.Told.{places_in};
-ghost use Rattle.rule_document_ground.specs.Reach.{reached_members, reached_fragments_of, IsReachOf};
+ghost use Rattle.rule_document_definitions.specs.PlacedDocumentFaults.{places_in};
+ghost use Rattle.rule_reach.specs.Reach.{reached_members, reached_fragments_of, IsReachOf};
 ghost use Rattle.rule_selections.specs.Typed.{ReachesTyped};
 ghost use Rattle.rule_selections.specs.Telling.{member_there, AddsOfSelection, AddsOfSelections, AddsOfFragment, AddsOfFragments};
 
@@ -24,13 +24,13 @@ use crate::fields::check_field;
 use document_typed_operations::{Fragment, Operation};
 use document_typed_selections::Selection;
 use graphql_names::Node;
-use rule_document_ground::Reach;
-use rule_uses::{DefinedVariables, Fault, IndexedSchema, check_uses};
+use rule_arguments::{DefinedVariables, Fault, IndexedSchema, check_uses};
+use rule_reach::Reach;
 use std::alloc::AllocError;
 use tree_directives::DirectiveLocation;
 use tree_literals::NamedType;
 
-/// Where the directives of such a selection stand.
+/// The location of the selection's directives.
 #[tactic(auto, using(crate::proofs::Members::location_rules))]
 fn location_of(selection: &Selection) -> DirectiveLocation
     ensures { result ≡ selection_location (meant (typed_selection_tree selection.now)) }
@@ -42,7 +42,7 @@ fn location_of(selection: &Selection) -> DirectiveLocation
     }
 }
 
-/// Adds the faults of a selection: of its directives, and of a field by itself.
+/// Adds the faults of a selection: of its directives, and those of a field.
 pub(crate) fn check_selection(
     schema: &IndexedSchema<'_>,
     parent: &NamedType,
@@ -115,8 +115,8 @@ fn check_fragments(
     Ok(())
 }
 
-/// Adds the faults of what an operation reaches, where that is typed: MissingSubselection, the rules on arguments of those of
-/// fields, and the rules on directives of those of the operation, of each selection and of each fragment.
+/// Adds the faults of what an operation reaches, if that is typed: MissingSubselection, the rules on arguments for those of
+/// fields, and the rules on directives for those of the operation, of each selection and of each fragment.
 pub fn check_selections(
     schema: &IndexedSchema<'_>,
     operation: &Node<Operation>,

@@ -1,8 +1,8 @@
 //! What replaces the fragments of a document, so that what its operations share is judged once.
 ghost use Rattle.std.specs.Prelude.{IfOk, OnOk, unwrap_or};
 ghost use Rattle.graphql_schema.specs.SchemaOf.{schema_tree};
-ghost use Rattle.rule_document_ground.specs.in_typed_operations.DocumentView.{document_meant};
-ghost use Rattle.rule_document_ground.specs.Reach.{meant_fragments};
+ghost use Rattle.rule_reach.specs.in_typed_operations.DocumentView.{document_meant};
+ghost use Rattle.rule_reach.specs.Reach.{meant_fragments};
 ghost use Rattle.rule_selections.specs.Settled.{fragment_meant, ApplyWhereNoted, StandsInFor, StandIn, StandInEach};
 ghost use Rattle.rule_selections.specs.Telling.{terms_of, IsRight, StillStandIn, SettlesSet};
 
@@ -13,10 +13,10 @@ use document_typed_operations::{ExecutableDocument, Fragment, FragmentMap};
 use document_typed_selections::SelectionSet;
 use graphql_names::{Name, Node};
 use indexmap::{IndexMap, IndexSet};
-use rule_uses::{DefinedVariables, IndexedSchema};
+use rule_arguments::{DefinedVariables, IndexedSchema};
 use std::alloc::{AllocError, Global};
 
-/// What is left of a set without those selections, if it uses the same variables; or else all of it.
+/// What is left of a set without its settled selections, if it uses the same variables; or else all of it.
 fn settled_set(
     alloc: Global,
     common: &Common<'_>,
@@ -32,7 +32,7 @@ fn settled_set(
     set.clone()
 }
 
-/// The fragment without those selections, where it stands.
+/// The fragment without its settled selections, at the same place.
 fn thinned_fragment(
     alloc: Global,
     common: &Common<'_>,
@@ -53,7 +53,7 @@ fn thinned_fragment(
     Ok(fragment.same_location(alloc, thin)?)
 }
 
-/// Replaces the fragment of that name by itself without those selections.
+/// Replaces the fragment of that name by itself without its settled selections.
 fn settle(
     common: &Common<'_>,
     fragments: &FragmentMap,
@@ -72,7 +72,7 @@ fn settle(
     Ok(())
 }
 
-/// What replaces the fragments of a document where operations have this in common.
+/// What replaces the fragments of a document whose operations have this in common.
 fn settled_under(
     common: &Common<'_>,
     document: &ExecutableDocument,
@@ -88,9 +88,9 @@ fn settled_under(
 }
 
 /// What replaces the fragments of a document under a schema, if it has several operations, so that what they share is judged
-/// once: each fragment without those of its selections, at any depth, that break no rule under the variables that all operations
-/// define alike, and enter no fragment but where it applies, nor does what they select. A fragment uses the same variables then.
-/// `applying` has, under names of types, conditions with which inline fragments may apply there. Fails where memory is refused.
+/// once: each fragment without those selections, at any depth, that break no rule under the variables that all operations
+/// define alike and enter only fragments that apply, and so does all that they select. The replacement uses the same variables.
+/// `applying` has, under names of types, conditions with which inline fragments may apply there. Fails if memory is refused.
 pub fn settled_fragments(
     alloc: Global,
     schema: &IndexedSchema<'_>,

@@ -1,10 +1,10 @@
-//! Selection sets without those selections, at any depth, of which nothing is told. The sets within a set are thinned before it,
-//! without recursion, so it takes the same stack at any depth.
+//! Selection sets without those selections, at any depth, for which no fault is told. The sets within a set are thinned
+//! before it, without recursion, so the stack does not grow with the depth.
 ghost use Rattle.std.specs.Prelude.{◌≡◌, IfOk, IsTrue, OnOk, None};
 ghost use Rattle.graphql_names.specs.Placed.{name_tree};
 ghost use Rattle.document_typed_selections.specs.TypedTree.{typed_selection_tree, typed_set_tree};
 ghost use Rattle.document_typed_selections.specs.TypedParts.{bare_inline, typed_field_node, typed_inline_node};
-ghost use Rattle.document_meaning.specs.MeantTree.{meant, meant_of_set};
+ghost use Rattle.spec_document.specs.MeantTree.{meant, meant_of_set};
 ghost use Rattle.rule_selections.specs.Settled.{filled, with_left, LeavesOfTyped};
 ghost use Rattle.rule_selections.specs.Telling.{terms_of, IsRight, SettlesIfLeft};
 ghost use Rattle.rule_selections.specs.Within.{TakesBelow, TakesKept, TakesThinned, AreThinned};
@@ -17,7 +17,7 @@ use graphql_names::Node;
 use std::alloc::{AllocError, Global};
 use tree_literals::{NamedType, copies_of_three, copies_of_two};
 
-/// A selection by which a set on that type has some, and of which nothing is told: an inline fragment without anything.
+/// A selection for an otherwise empty set on that type, for which no fault is told: an inline fragment without anything in it.
 fn filler(alloc: Global, ty: &NamedType) -> Result<Selection, AllocError>
     ensures { IfOk result (λ r. typed_selection_tree r ≡ bare_inline None (name_tree ty.now)) }
 {
@@ -25,7 +25,7 @@ fn filler(alloc: Global, ty: &NamedType) -> Result<Selection, AllocError>
     Ok(Selection::InlineFragment(Node::new(alloc, inline)?))
 }
 
-/// What is left of the whole set; but a set with a selection of which nothing is told, where nothing is left of some.
+/// What is left of the whole set; but a set with the filler alone, if the whole set has selections and none is left.
 fn filled(
     alloc: Global,
     whole: &SelectionSet,
@@ -44,7 +44,7 @@ fn filled(
     Ok(set)
 }
 
-/// The field with what is left of its set, where it stands.
+/// The field with what is left of its set, at the same place.
 fn field_with(
     alloc: Global,
     field: &Node<Field>,
@@ -67,7 +67,7 @@ fn field_with(
     Ok(Selection::Field(field.same_location(alloc, thin)?))
 }
 
-/// The inline fragment with what is left of its set, where it stands.
+/// The inline fragment with what is left of its set, at the same place.
 fn inline_with(
     alloc: Global,
     inline: &Node<InlineFragment>,
@@ -101,8 +101,8 @@ fn selection_with(
     }
 }
 
-/// Whether the selection of a set on that type may be left out, of whose own set this is left: nothing is left of that, nothing
-/// is told of the selection itself, and its variables are used by what stays, as these are.
+/// Whether the selection of a set on that type may be left out, given what is left of its own set: nothing is left of that,
+/// no fault is told for the selection itself, and its variables are used by selections that stay.
 fn is_settled(
     common: &Common<'_>,
     ty: &NamedType,
@@ -120,7 +120,7 @@ fn is_settled(
     Ok(false)
 }
 
-/// What is left of the set of a selection, if it has one: the last of these. A spread has none.
+/// Takes what is left of the set of a selection, if it has one: the last of these. A spread has none.
 fn left_below(selection: &Selection, thin: &mut Vec<SelectionSet>) -> Option<SelectionSet>
     ensures { TakesBelow selection.now result thin.old.items thin.new.items }
 {
@@ -130,7 +130,7 @@ fn left_below(selection: &Selection, thin: &mut Vec<SelectionSet>) -> Option<Sel
     thin.pop()
 }
 
-/// Puts what stays of a selection of a set on that type last, unless nothing is told of it, and of all that it selects.
+/// Appends what stays of a selection of a set on that type, unless no fault is told for it and for all that it selects.
 fn keep_unless_settled(
     common: &Common<'_>,
     ty: &NamedType,
@@ -154,7 +154,7 @@ fn keep_unless_settled(
     Ok(())
 }
 
-/// What is left of a set. What is left of the sets of its selections is taken from these: that of the first one is the last.
+/// What is left of a set. What is left of the sets of its selections is taken from the end of `thin`: that of the first is last.
 fn thinned_set(
     alloc: Global,
     common: &Common<'_>,
@@ -172,8 +172,8 @@ fn thinned_set(
     Ok(kept)
 }
 
-/// What is left of sets, each of which comes before those within it. What is left within a set is taken into that, so at the
-/// end there is one for each that is in no other, the first one last.
+/// What is left of sets, each of which comes before those within it. What is left of a set is moved into the set that it is
+/// in, so at the end there is one for each set that is in no other, the first one last.
 fn thinned_sets<'doc>(
     alloc: Global,
     common: &Common<'_>,
@@ -191,8 +191,8 @@ fn thinned_sets<'doc>(
     Ok(thin)
 }
 
-/// The set without those of its selections, at any depth, of which nothing is told: they break no rule under the common variables,
-/// and neither they nor what they select enters a fragment but where that applies. A field keeps some selection if it has any.
+/// The set without those of its selections, at any depth, for which no fault is told: they break no rule under the common
+/// variables, and enter only fragments that apply, and so does all that they select. A field that has selections still has one.
 /// The first use of each variable should stay: that is not promised.
 pub(crate) fn thinned(
     alloc: Global,

@@ -1,8 +1,8 @@
 //! The names of the variables that are used in sets at any depth.
 ghost use Rattle.std.specs.Prelude.{◌≡◌, [], ℕ, List, Contains, IfOk, IsTrue, OnOk};
 ghost use Rattle.document_typed_selections.specs.TypedTree.{typed_set_tree};
-ghost use Rattle.document_meaning.specs.MeantTree.{meant_of_set};
-ghost use Rattle.rule_document_ground.specs.NotedNames.{noted_names};
+ghost use Rattle.spec_document.specs.MeantTree.{meant_of_set};
+ghost use Rattle.rule_reach.specs.NotedNames.{noted_names};
 ghost use Rattle.rule_selections.specs.UsedNames.{with_set, with_sets};
 ghost use Rattle.rule_selections.specs.Settled.{UsesAll};
 ghost use Rattle.rule_selections.specs.Within.{within};
@@ -11,7 +11,7 @@ use crate::within::sets_within;
 use document_typed_selections::{Selection, SelectionSet};
 use graphql_names::Name;
 use indexmap::IndexSet;
-use rule_document_ground::{has_name, note_in_selection};
+use rule_reach::{has_name, note_in_selection};
 use std::alloc::{AllocError, Global};
 
 /// Adds the names of the variables in a selection itself, and tells whether one of them is new.

@@ -1,4 +1,4 @@
-//! The sets within a set, at any depth, each before those within it. There is no recursion, so it takes the same stack at any
+//! The sets within a set, at any depth, each before those within it. There is no recursion, so the stack does not grow with the
 //! depth.
 ghost use Rattle.std.specs.Prelude.{◌≡◌, ◌++◌, ◌∷◌, [], flat_map, IfOk, OnOk};
 ghost use Rattle.document_typed_selections.specs.TypedTree.{typed_selection_tree, typed_set_tree};
@@ -7,7 +7,7 @@ ghost use Rattle.rule_selections.specs.Within.{own_sets, sets_below, within, typ
 use document_typed_selections::{Selection, SelectionSet};
 use std::alloc::{AllocError, Global};
 
-/// The set comes next.
+/// Makes the set the next one.
 fn push_set<'doc>(
     set: &'doc SelectionSet,
     waiting: &mut Vec<&'doc SelectionSet>,
@@ -18,7 +18,7 @@ fn push_set<'doc>(
     Ok(())
 }
 
-/// The set of a selection comes next. A spread has none.
+/// Makes the set of a selection the next one. A spread has none.
 #[tactic(auto, using(document_typed_selections::proofs::TypedTrees::typed_tree_rules))]
 fn push_own_set<'doc>(
     selection: &'doc Selection,
@@ -33,7 +33,7 @@ fn push_own_set<'doc>(
     }
 }
 
-/// The sets of a set's selections come next, in order.
+/// Makes the sets of a set's selections the next ones, in order.
 fn push_sets_below<'doc>(
     set: &'doc SelectionSet,
     waiting: &mut Vec<&'doc SelectionSet>,
@@ -50,12 +50,12 @@ fn push_sets_below<'doc>(
 #[derive(Drop)]
 struct Finding<'doc> {
     sets: Vec<&'doc SelectionSet>,
-    /// Those of which the sets within are not found yet, the next one last.
+    /// Those that are not searched yet, the next one last.
     waiting: Vec<&'doc SelectionSet>,
 }
 
 impl<'doc> Finding<'doc> {
-    /// Finds those that wait, and all sets within them.
+    /// Adds those that wait, and all sets within them.
     fn find_all(&mut self) -> Result<(), AllocError>
         ensures { OnOk result (typed_sets self.new.sets.items ≡ typed_sets self.old.sets.items ++ flat_map within (waiting_sets self.old.waiting.items)) }
     {

@@ -25,7 +25,7 @@ use Rattle.fault_data.specs.in_rule_definitions.Faults.{SchemaFault, wrong, told
 use Rattle.fault_data.specs.in_rule_definitions.Judged.{judged}
 use Rattle.fault_data.specs.in_rule_definitions.Subtypes.{is_valid_type}
 use Rattle.fault_data.specs.in_rule_definitions.Words.{Present, Among, Lacks, FirstNamed}
-use Rattle.fault_data.specs.in_rule_definitions.Told.{PlacedFault}
+use Rattle.fault_data.specs.in_rule_definitions.PlacedFaults.{PlacedFault}
 use Rattle.schema_types.specs.Distinct.{ArePartsDistinct}
 use Rattle.fault_data.proofs.in_rule_definitions.Tells.{Tells, tells_same, tells_both, tells_nothing, tells_one, tells_when, tells_unless, tells_names, tells_entries, tells_index}
 use Rattle.fault_data.proofs.Judgings.{type_seen, type_look, interface_look, field_look, field_there, listed_there}

@@ -14,7 +14,7 @@ use Rattle.schema_types.specs.declared.extended_type.ExtendedType.{ExtendedType}
 use Rattle.fault_data.specs.Room.{◌⊕◌}
 use Rattle.fault_data.specs.in_rule_definitions.Judged.{judged}
 use Rattle.fault_data.specs.in_rule_definitions.Rules.{InterfacesBreak}
-use Rattle.fault_data.specs.in_rule_definitions.Told.{PlacedFault, Told}
+use Rattle.fault_data.specs.in_rule_definitions.PlacedFaults.{PlacedFault, Told}
 use Rattle.schema_types.specs.Distinct.{AreAllDistinct}
 use Rattle.fault_data.specs.in_rule_definitions.Words.{Among}
 use Rattle.fault_data.proofs.in_rule_definitions.Lookups.{under_given}

@@ -16,7 +16,7 @@ use Rattle.fault_data.specs.in_rule_definitions.Faults.{SchemaFault, wrong, told
 use Rattle.fault_data.specs.in_rule_definitions.Judged.{judged}
 use Rattle.fault_data.specs.in_rule_definitions.Words.{Repeats}
 use Rattle.fault_data.specs.in_rule_definitions.Roots.{QueryRootOperationTypeAt, DuplicateRootOperationTypeAt}
-use Rattle.fault_data.specs.in_rule_definitions.Told.{PlacedFault}
+use Rattle.fault_data.specs.in_rule_definitions.PlacedFaults.{PlacedFault}
 use Rattle.rule_types.specs.FaultLists.{query_root_operation_type, same_root, or_else, subscription_again, root_faults, roots_faults}
 use Rattle.fault_data.proofs.in_rule_definitions.Lists.{not_in_nil, only, index_given}
 use Rattle.rule_types.proofs.ByPlace.{RootBreaks, RootsBreak}

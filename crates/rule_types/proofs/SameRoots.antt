@@ -4,7 +4,7 @@ use Rattle.std.specs.Str.{bytes_eq}
 use Rattle.graphql_names.specs.Placed.{Place, Text}
 use Rattle.tree_directives.specs.declared.operation_type.OperationType.TheVariants as operation
 use Rattle.schema_components.specs.Given.{Given}
-use Rattle.fault_data.specs.in_rule_definitions.Told.{PlacedFault}
+use Rattle.fault_data.specs.in_rule_definitions.PlacedFaults.{PlacedFault}
 use Rattle.rule_types.specs.FaultLists.{same_root, is_same_root, or_else}
 
 told_first : (b : Bool) (f : PlacedFault) (rest : List PlacedFault) → b ≡ true → (if b then f ∷ [] else []) ≡ or_else (if b then f ∷ [] else []) rest

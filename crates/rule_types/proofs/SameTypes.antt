@@ -5,8 +5,8 @@ use Rattle.std.proofs.lemmas.Slice.Eq.{bytes_eq-Decides}
 use Rattle.graphql_names.specs.Placed.{Text}
 use Rattle.tree_literals.specs.TypeTree.{TypeTree, NamedTree, NonNullNamedTree, ListTree, NonNullListTree, type_tree, unplaced_type}
 use Rattle.tree_literals.specs.declared.ty.«Type».{«Type»}
-use Rattle.schema_types.proofs.in_values.Decided.{through}
-use Rattle.schema_types.proofs.in_values.TypeEquality.{type_eq, type_eq-Decides}
+use Rattle.schema_types.proofs.in_operations.Decided.{through}
+use Rattle.schema_types.proofs.in_operations.TypeEquality.{type_eq, type_eq-Decides}
 use Rattle.rule_types.specs.InterfaceFaults.{same_type}
 
 named : (a b : Text (Unit {0})) → a.it ≡ b.it → a ≡ b

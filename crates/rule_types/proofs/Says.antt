@@ -27,7 +27,7 @@ use Rattle.fault_data.specs.in_rule_definitions.ReservedNames.{IsReservedAt}
 use Rattle.fault_data.specs.in_rule_definitions.Rules.{IsToldAs, extension_places, extension_places_at}
 use Rattle.fault_data.specs.in_rule_definitions.TypesUsed.{IsUndefinedAt}
 use Rattle.fault_data.specs.in_rule_definitions.Words.{Present, IsEmpty}
-use Rattle.fault_data.specs.in_rule_definitions.Told.{PlacedFault}
+use Rattle.fault_data.specs.in_rule_definitions.PlacedFaults.{PlacedFault}
 use Rattle.schema_types.specs.Distinct.{ArePartsDistinct}
 use Rattle.rule_types.specs.FaultLists.{if_none, kind_named, reserved_name, undefined_name, undefined_type, output_type, input_type, union_member_object_type, root_operation_object_type, empty_field_set, empty_member_set, empty_value_set, empty_input_value_set, unique_input_value, value_faults, input_value_faults, argument_faults, arguments_faults, field_faults, member_faults, input_faults, directive_faults, root_faults}
 use Rattle.fault_data.proofs.in_rule_definitions.Lists.{mapped_none}

@@ -11,7 +11,7 @@ use Rattle.schema_components.specs.Names.{same_text}
 use Rattle.schema_types.specs.TypeView.{name_text}
 use Rattle.fault_data.specs.in_rule_definitions.Diagnostics.{UniqueInputValue}
 use Rattle.fault_data.specs.in_rule_definitions.Faults.{wrong}
-use Rattle.fault_data.specs.in_rule_definitions.Told.{PlacedFault}
+use Rattle.fault_data.specs.in_rule_definitions.PlacedFaults.{PlacedFault}
 use Rattle.rule_types.specs.FaultLists.{first_named, unique_input_value}
 use Rattle.rule_types.specs.InterfaceFaults.{Input}
 use Rattle.rule_types.specs.Seen.{AreSeen}

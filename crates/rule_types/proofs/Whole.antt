@@ -26,7 +26,7 @@ use Rattle.fault_data.specs.in_rule_definitions.Diagnostics.{Diagnostic, EmptyFi
 use Rattle.fault_data.specs.in_rule_definitions.Faults.{wrong}
 use Rattle.fault_data.specs.in_rule_definitions.Judged.{judged}
 use Rattle.fault_data.specs.in_rule_definitions.Rules.{extension_places}
-use Rattle.fault_data.specs.in_rule_definitions.Told.{PlacedFault, Told}
+use Rattle.fault_data.specs.in_rule_definitions.PlacedFaults.{PlacedFault, Told}
 use Rattle.rule_types.specs.TypesBreak.{TypesBreak}
 use Rattle.schema_types.specs.Distinct.{AreAllDistinct}
 use Rattle.rule_types.specs.FaultLists.{if_none, reserved_name, value_faults, field_faults, input_faults, parts_faults, types_faults, directive_faults, directives_faults, roots_faults, all_faults}

@@ -1,4 +1,4 @@
--- Private: leads to `ReferencesBreak` and `EmptyBreaks`. The faults that each rule tells of one place, and those of all of them, in order. The public contract cites the rules alone.
+-- Private: leads to `ReferencesBreak` and `EmptyBreaks`. The faults that each rule tells at one place, and those of all rules, in order. The public contract cites only the rules.
 use Rattle.std.specs.Prelude.{ℕ, Bool, false, List, [], ◌∷◌, ◌++◌, map, if◌then◌else◌, find, bytes_eq, codes, flat_map, Option, None, Some}
 use Rattle.std.specs.Option.{option_map, option_map_or}
 use Rattle.graphql_names.specs.NameValue.{NameValue}
@@ -33,25 +33,25 @@ use Rattle.fault_data.specs.in_rule_definitions.Diagnostics.{QueryRootOperationT
 use Rattle.fault_data.specs.in_rule_definitions.Faults.{wrong}
 use Rattle.fault_data.specs.in_rule_definitions.Names.{is_reserved, scalar_names}
 use Rattle.fault_data.specs.in_rule_definitions.Rules.{extension_places}
-use Rattle.fault_data.specs.in_rule_definitions.Told.{PlacedFault}
+use Rattle.fault_data.specs.in_rule_definitions.PlacedFaults.{PlacedFault}
 use Rattle.rule_types.specs.Trees.{root_tree}
 
--- y where there are none
+-- y if the list is empty, otherwise nothing
 abbrev pub if_none : {X Y : Type 0} → List X → Y → List Y
 if_none [] y = y ∷ []
 if_none (x ∷ xs) y = []
 
--- the kind of the type of that name, if it is there
+-- the kind of the type of that name, if it is defined
 abbrev pub kind_named : SchemaTree Place → List ℕ → Option TypeKind
 kind_named s n = option_map (λ t. t.kind) (type_at s n)
 
--- ---- each rule, of one place
+-- ---- each rule, at one place
 
--- of what is built in or not, with its name, the place of the name, and what it is in words
+-- given whether the thing is built in, its name, the place of the name, and what it is in words
 abbrev pub reserved_name : Bool → List ℕ → Place → List ℕ → List PlacedFault
 reserved_name built_in n place describe = if built_in then [] else (if is_reserved n then wrong place (ReservedName n describe) ∷ [] else [])
 
--- of a name, and of a reference to a type, each with the kind of that type
+-- given a name, and below a reference to a type, each with the kind of the type, if that is defined
 abbrev pub undefined_name : Text Place → Option TypeKind → List PlacedFault
 undefined_name n None = wrong n.place (UndefinedDefinition n.it) ∷ []
 undefined_name n (Some k) = []
@@ -75,7 +75,7 @@ input_type v o = option_map_or (λ k. if is_input_kind k then [] else wrong v.pl
 abbrev pub union_member_object_type : Text Place → Option TypeKind → List PlacedFault
 union_member_object_type n o = option_map_or (λ k. if same_kind k kind.Object then [] else wrong n.place (UnionMemberObjectType n.it (kind_words k)) ∷ []) o []
 
--- of a type that is described so, with what it has
+-- the faults of the type t of the name n, if `there`, the list of its parts, is empty
 module _ {V : Type 0} (n : List ℕ) (t : SchemaType Place) (there : List V) where
   abbrev pub empty_field_set : List PlacedFault
   empty_field_set = if_none there (wrong t.place (EmptyFieldSet n t.place (extension_places t)))
@@ -89,22 +89,22 @@ module _ {V : Type 0} (n : List ℕ) (t : SchemaType Place) (there : List V) whe
   abbrev pub empty_input_value_set : List PlacedFault
   empty_input_value_set = if_none there (wrong t.place (EmptyInputValueSet n t.place (extension_places t)))
 
--- the first of these that has the name of v
+-- the first of these that has the name
 abbrev pub first_named : InputValues Place → List ℕ → Option (Placed Place (InputValueTree Place))
 first_named vs n = find (λ w. bytes_eq n w.it.name.it) vs
 
--- of an argument definition, with those before it
+-- the fault of an argument definition v, given those before it
 abbrev pub unique_input_value : InputValues Place → Placed Place (InputValueTree Place) → List PlacedFault
 unique_input_value before v = option_map_or (λ w. wrong w.place (UniqueInputValue v.it.name.it w.place v.place) ∷ []) (first_named before v.it.name.it) []
 
--- of the value of an enum that stands under the name
+-- the faults of the enum value v of the name m
 abbrev pub value_faults : List ℕ → Placed Place (EnumValueTree Place) → List PlacedFault
 value_faults m v = reserved_name (is_built_in v.place) m v.it.value.place (codes "an enum value")
 
 abbrev pub values_faults : List ℕ → SchemaType Place → List (NameValue × Component EnumValueDefinition) → List PlacedFault
 values_faults n t es = empty_value_set n t es ++ flat_map (λ (e : NameValue × Component EnumValueDefinition). value_faults (name_text e.0) (node_tree enum_value_tree e.1.node)) es
 
--- of a root, where an earlier one, if it is there, is the same type
+-- the fault of the root p, if it has the type of the earlier root o; both may be missing
 abbrev pub same_root : OperationType → Option (Given Place (Text Place)) → OperationType → Option (Given Place (Text Place)) → List PlacedFault
 same_root o None p root = []
 same_root o (Some f) p None = []
@@ -113,26 +113,26 @@ same_root o (Some f) p (Some g) = if bytes_eq g.it.it f.it.it then wrong g.it.pl
 abbrev pub duplicate_root_operation_type : OperationType → Option ComponentName → OperationType → Option ComponentName → List PlacedFault
 duplicate_root_operation_type o root p again = same_root o (root_tree root) p (root_tree again)
 
--- whether both roots are there, and the same type
+-- whether both roots are defined and have the same type
 abbrev pub is_same_root : Option (Given Place (Text Place)) → Option (Given Place (Text Place)) → Bool
 is_same_root None root = false
 is_same_root (Some f) None = false
 is_same_root (Some f) (Some g) = bytes_eq g.it.it f.it.it
 
--- these, or else those
+-- the first list, or the second if the first is empty
 abbrev pub or_else : {Y : Type 0} → List Y → List Y → List Y
 or_else [] ys = ys
 or_else (x ∷ xs) ys = x ∷ xs
 
--- of the third root, where the first or else the second is the same type
+-- the fault of the subscription root, if it has the type of the query root, or else if it has that of the mutation root
 abbrev pub subscription_again : SchemaRoots Place → List PlacedFault
 subscription_again r = or_else (same_root operation.Query r.query operation.Subscription r.subscription) (same_root operation.Mutation r.mutation operation.Subscription r.subscription)
 
--- of each root of which an earlier one is the same type
+-- the faults of the roots whose type an earlier root has
 abbrev pub repeated_roots : SchemaRoots Place → List PlacedFault
 repeated_roots r = same_root operation.Query r.query operation.Mutation r.mutation ++ subscription_again r
 
--- ---- all rules of each kind of place
+-- ---- all rules, at each kind of place
 
 module _ (s : SchemaTree Place) where
   abbrev pub input_value_faults : List ℕ → List ℕ → Placed Place (InputValueTree Place) → List PlacedFault
@@ -146,7 +146,7 @@ module _ (s : SchemaTree Place) where
   abbrev pub arguments_faults : InputValues Place → List PlacedFault
   arguments_faults vs = flat_map argument_faults vs ++ each_place unique_input_value vs
 
-  -- of the name and the type of a field
+  -- the faults of the name and the type of a field
   abbrev pub field_type_faults : List ℕ → Placed Place (FieldDefinitionTree Place) → List PlacedFault
   field_type_faults m f =
       reserved_name (is_built_in f.place) m f.it.name.place (codes "a field")
@@ -179,7 +179,7 @@ module _ (s : SchemaTree Place) where
   abbrev pub inputs_faults : List ℕ → SchemaType Place → List (NameValue × Component InputValueDefinition) → List PlacedFault
   inputs_faults n t es = empty_input_value_set n t es ++ each_input_faults es
 
-  -- of what a type has
+  -- the faults of the parts of a type
   abbrev pub parts_faults : List ℕ → ExtendedType → List PlacedFault
   parts_faults n (rust.Scalar t) = []
   parts_faults n (rust.Object t) = fields_faults n (extended_type (rust.Object t)) (content t).fields.entries
@@ -194,7 +194,7 @@ module _ (s : SchemaTree Place) where
   abbrev pub directive_faults : List ℕ → Placed Place (DirectiveDefinitionTree Place) → List PlacedFault
   directive_faults n d = reserved_name (is_built_in d.place) n d.it.name.place (codes "a directive definition") ++ arguments_faults d.it.arguments
 
-  -- of one root
+  -- the faults of one root
   abbrev pub root_faults : Option (Given Place (Text Place)) → List PlacedFault
   root_faults root = option_map_or (λ g. undefined_name g.it (kind_named s g.it.it) ++ root_operation_object_type g.it (kind_named s g.it.it)) root []
 
@@ -209,7 +209,7 @@ module _ (s : SchemaTree Place) where
   abbrev pub directives_faults : List (NameValue × Node DirectiveDefinition) → List PlacedFault
   directives_faults es = flat_map (λ (e : NameValue × Node DirectiveDefinition). directive_faults (name_text e.0) (node_tree directive_definition_tree e.1)) es
 
--- of a schema with these types and directive definitions
+-- the faults of a schema with these types and directive definitions
 abbrev pub all_faults : SchemaTree Place → List (NameValue × ExtendedType) → List (NameValue × Node DirectiveDefinition) → List PlacedFault
 all_faults s types directives = roots_faults s ++ (types_faults s types ++ directives_faults s directives)
 

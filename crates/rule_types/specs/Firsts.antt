@@ -11,6 +11,6 @@ use Rattle.schema_components.specs.Names.{same_text}
 use Rattle.schema_types.specs.TypeView.{name_text}
 use Rattle.rule_types.specs.FaultLists.{first_named}
 
--- under each name there is the first of these that has it
+-- the map has under each name the first of these with that name
 abbrev pub AreFirsts : {S : Type 0} → IndexMap NameValue (Node InputValueDefinition) S → InputValues Place → Type 0
 AreFirsts firsts vs = (n : NameValue) → option_map (node_tree input_value_tree) (get (same_text name_text) firsts n) ≡ first_named vs n.text

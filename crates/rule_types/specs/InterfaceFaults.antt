@@ -1,5 +1,4 @@
--- Private: leads to `InterfacesBreak`. The faults that each rule on interfaces tells of one place, and those of all of them, in order. The public contract cites the
--- rules alone.
+-- Private: leads to `InterfacesBreak`. The faults that each rule on interfaces tells at one place, and those of all rules, in order. The public contract cites only the rules.
 use Rattle.std.specs.Prelude.{ℕ, Bool, false, List, [], ◌∷◌, ◌++◌, map, if◌then◌else◌, bytes_eq, flat_map, Option}
 use Rattle.std.specs.Option.{option_map, option_map_or}
 use Rattle.graphql_names.specs.NameValue.{NameValue}
@@ -24,7 +23,7 @@ use Rattle.fault_data.specs.in_rule_definitions.Diagnostics.{UndefinedDefinition
 use Rattle.fault_data.specs.in_rule_definitions.Faults.{wrong}
 use Rattle.fault_data.specs.in_rule_definitions.Judged.{judged}
 use Rattle.fault_data.specs.in_rule_definitions.Subtypes.{is_valid_type}
-use Rattle.fault_data.specs.in_rule_definitions.Told.{PlacedFault}
+use Rattle.fault_data.specs.in_rule_definitions.PlacedFaults.{PlacedFault}
 use Rattle.rule_types.specs.FaultLists.{first_named}
 
 abbrev pub Field : Type 0
@@ -33,48 +32,48 @@ Field = Placed Place (FieldDefinitionTree Place)
 abbrev pub Input : Type 0
 Input = Placed Place (InputValueTree Place)
 
--- the field of a type that stands under the name
+-- the field of that name of a type
 abbrev pub own_field : SchemaType Place → List ℕ → Option Field
 own_field t m = option_map (λ g. g.it) (under m t.fields)
 
 abbrev pub plain : TypeTree Place → TypeTree (Unit {0})
 plain ty = unplaced_type ty
 
--- ---- each rule, of one place: a type n, over an interface i that it lists
+-- ---- each rule, at one place: a type n, and an interface i that it lists
 
 module _ (n : List ℕ) (t : SchemaType Place) (i : Text Place) where
   abbrev pub recursive_interface_definition : List PlacedFault
   recursive_interface_definition =
       if same_kind t.kind kind.Interface then (if bytes_eq i.it n then wrong i.place (RecursiveInterfaceDefinition n) ∷ [] else []) else []
 
-  -- a name that the interface lists
+  -- given a name that the interface lists
   abbrev pub transitive_implemented_interfaces : Text Place → List PlacedFault
   transitive_implemented_interfaces missing =
       if is_among missing.it (map given_name t.interfaces) then [] else wrong t.place (TransitiveImplementedInterfaces n i.it missing.place missing.it) ∷ []
 
-  -- a field m of the interface
+  -- given a field m of the interface
   abbrev pub missing_interface_field : List ℕ → Field → List PlacedFault
   missing_interface_field m wanted = wrong t.place (MissingInterfaceField n i.place i.it m wanted.place) ∷ []
 
 abbrev pub undefined_interface : Text Place → List PlacedFault
 undefined_interface i = wrong i.place (UndefinedDefinition i.it) ∷ []
 
--- a field m of the interface, and that of the type
+-- given the field m of the interface and that of the type
 module _ (n i m : List ℕ) (wanted field : Field) where
   abbrev pub invalid_implementation_field_type : SchemaTree Place → List PlacedFault
   invalid_implementation_field_type s =
       if is_valid_type (judged s) (plain wanted.it.ty) (plain field.it.ty) then [] else
       wrong field.place (InvalidImplementationFieldType n i m (plain wanted.it.ty) (plain field.it.ty) field.place wanted.place) ∷ []
 
-  -- an argument w of the interface's field
+  -- given an argument w of the interface's field
   abbrev pub missing_interface_field_argument : Input → List PlacedFault
   missing_interface_field_argument w = wrong field.place (MissingInterfaceFieldArgument n i m w.it.name.it field.place w.place) ∷ []
 
-  -- an argument v of the type's field, which the interface's lacks
+  -- given an argument v of the type's field that the interface's field lacks
   abbrev pub extra_required_argument : Input → List PlacedFault
   extra_required_argument v = if is_required_input v.it then wrong v.place (ExtraRequiredImplementationFieldArgument n i m v.it.name.it v.place wanted.place) ∷ [] else []
 
--- references to types are the same
+-- whether two references to types are the same
 abbrev pub same_type : TypeTree (Unit {0}) → TypeTree (Unit {0}) → Bool
 same_type (NamedTree a) (NamedTree b) = bytes_eq a.it b.it
 same_type (NonNullNamedTree a) (NonNullNamedTree b) = bytes_eq a.it b.it
@@ -82,29 +81,29 @@ same_type (ListTree a) (ListTree b) = same_type a b
 same_type (NonNullListTree a) (NonNullListTree b) = same_type a b
 same_type _ _ = false
 
--- an argument of the interface's field, and that of the type's
+-- given an argument w of the interface's field and the argument v of the type's field with its name
 abbrev pub invalid_implementation_field_argument_type : List ℕ → List ℕ → List ℕ → Input → Input → List PlacedFault
 invalid_implementation_field_argument_type n i m w v =
     if same_type (plain w.it.ty.it) (plain v.it.ty.it) then [] else
     wrong v.place (InvalidImplementationFieldArgumentType n i m w.it.name.it (plain w.it.ty.it) (plain v.it.ty.it) v.place w.place) ∷ []
 
--- ---- all rules of each kind of place
+-- ---- all rules, at each kind of place
 
 module _ (n i m : List ℕ) (wanted field : Field) where
-  -- where these are the arguments of the type's field
+  -- the fault of an argument w of the interface's field, where vs are the arguments of the type's field
   abbrev pub wanted_fault : InputValues Place → Input → List PlacedFault
   wanted_fault vs w =
       option_map_or (λ v. invalid_implementation_field_argument_type n i m w v) (first_named vs w.it.name.it) (missing_interface_field_argument n i m wanted field w)
 
-  -- where these are the arguments of the interface's field
+  -- the fault of an argument v of the type's field, where ws are the arguments of the interface's field
   abbrev pub own_fault : InputValues Place → Input → List PlacedFault
   own_fault ws v = option_map_or (λ w. []) (first_named ws v.it.name.it) (extra_required_argument n i m wanted field v)
 
-  -- of all arguments of the one field, where these are those of the other
+  -- the faults of all arguments of the interface's field, where vs are the arguments of the type's field
   abbrev pub wanted_faults_over : InputValues Place → List PlacedFault
   wanted_faults_over vs = flat_map (wanted_fault vs) wanted.it.arguments
 
-  -- of these among the arguments of the type's field
+  -- the faults of the arguments vs of the type's field, where ws are the arguments of the interface's field
   abbrev pub own_faults_among : InputValues Place → InputValues Place → List PlacedFault
   own_faults_among ws vs = flat_map (own_fault ws) vs
 
@@ -120,7 +119,7 @@ module _ (n i m : List ℕ) (wanted field : Field) where
   abbrev pub arguments_faults : List PlacedFault
   arguments_faults = wanted_faults ++ own_faults
 
--- of the interfaces that an interface lists
+-- the faults of the names that the interface i lists
 abbrev pub each_transitive_faults : List ℕ → SchemaType Place → Text Place → List ComponentName → List PlacedFault
 each_transitive_faults n t i listed = flat_map (λ g. transitive_implemented_interfaces n t i g.it) (map component_name_tree listed)
 
@@ -137,7 +136,7 @@ module _ (s : SchemaTree Place) where
   abbrev pub over_faults : List ℕ → SchemaType Place → Text Place → SchemaType Place → List PlacedFault
   over_faults n t i over = flat_map (λ g. transitive_implemented_interfaces n t i g.it) over.interfaces ++ fields_faults n t i over.fields
 
-  -- a name that the type lists
+  -- given a name i that the type lists
   abbrev pub listed_faults : List ℕ → SchemaType Place → Text Place → List PlacedFault
   listed_faults n t i = option_map_or (λ over. over_faults n t i over) (type_of_kind s kind.Interface i.it) (undefined_interface i)
 
@@ -150,7 +149,7 @@ module _ (s : SchemaTree Place) where
   abbrev pub type_faults : List ℕ → SchemaType Place → List PlacedFault
   type_faults n t = flat_map (interface_faults n t) t.interfaces
 
-  -- of the entries of a map: fields of the interface, and all types
+  -- the faults of the entries of a map: of fields of the interface; below, of all types
   abbrev pub each_field_faults : List ℕ → SchemaType Place → Text Place → List (NameValue × Component FieldDefinition) → List PlacedFault
   each_field_faults n t i es = flat_map (λ (e : NameValue × Component FieldDefinition). field_faults n t i (name_text e.0) (node_tree field_definition_tree e.1.node)) es
 

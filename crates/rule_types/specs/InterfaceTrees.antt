@@ -21,7 +21,7 @@ use Rattle.graphql_schema.specs.SchemaOf.{schema_tree}
 use Rattle.schema_inputs.specs.Inputs.{AreInputsOf, HasAt}
 use Rattle.fault_data.specs.in_rule_definitions.Judged.{judged}
 use Rattle.fault_data.specs.in_rule_definitions.Subtypes.{is_valid_type}
-use Rattle.fault_data.specs.in_rule_definitions.Told.{PlacedFault}
+use Rattle.fault_data.specs.in_rule_definitions.PlacedFaults.{PlacedFault}
 use Rattle.rule_types.specs.InterfaceFaults.{Field, Input}
 use Rattle.rule_types.specs.Trees.{input_tree, field_tree}
 use Rattle.rule_types.specs.declared.implementation.Implementer.{Implementer}
@@ -35,14 +35,14 @@ interface_tree over = interface_type (place over) (content over)
 abbrev pub schema_of : InterfaceJudging → SchemaTree Place
 schema_of judging = schema_tree judging.schema.now
 
--- the type stands under that name in the schema that is judged, of which the inputs are known
+-- the type has that name in the schema that is judged, and `inputs` has what this schema defines of many input values
 abbrev pub StandsUnder : InterfaceJudging → NameValue → ExtendedType → Type 0
 StandsUnder judging n ty = AreInputsOf (schema_of judging) judging.inputs.now × (type_at (schema_of judging) n.text ≡ Some (extended_type ty))
 
 abbrev pub Stands : InterfaceJudging → Implementer → Type 0
 Stands judging x = StandsUnder judging x.name.now x.ty.now
 
--- the field stands under that name in the type of that name
+-- the field has the name m in the type of the name n
 abbrev pub HasField : InterfaceJudging → NameValue → NameValue → Component FieldDefinition → Type 0
 HasField judging n m field = HasAt (type_at (schema_of judging) n.text) (λ t. under m.text t.fields ≡ Some (component_tree field_definition_tree field))
 
@@ -50,30 +50,30 @@ HasField judging n m field = HasAt (type_at (schema_of judging) n.text) (λ t. u
 abbrev pub AreOwn : List (Node InputValueDefinition) → Implementation → Type 0
 AreOwn own x = own ≡ (content x.field.now).arguments.items
 
--- of the name of a type, the type, and an interface that it lists
+-- f of the name of a type, the type, and an interface that it lists
 abbrev pub of_implementer : {X : Type 0} → (List ℕ → SchemaType Place → Text Place → X) → Implementer → X
 of_implementer f x = f x.name.now.text (extended_type x.ty.now) (name_tree x.interface.now.name)
 
--- and of a field of the interface, with its name
+-- f of these, and of a field of the interface with its name
 abbrev pub of_field : (List ℕ → SchemaType Place → Text Place → List ℕ → Field → List PlacedFault) → Implementer → NameValue → Node FieldDefinition → List PlacedFault
 of_field f x m wanted = of_implementer f x m.text (field_tree wanted)
 
--- of the names of a type, an interface and a field, and of the interface's field and the type's
+-- f of the names of a type, an interface and a field, and of the interface's field and the type's field
 abbrev pub of_implementation : {X : Type 0} → (List ℕ → List ℕ → List ℕ → Field → Field → X) → Implementation → X
 of_implementation f x = f x.name.now.text x.interface.now.text x.field_name.now.text (field_tree x.wanted.now) (field_tree x.field.now)
 
--- of these names, and an argument of each field
+-- f of these names, and of an argument of each field
 abbrev pub of_arguments : (List ℕ → List ℕ → List ℕ → Input → Input → List PlacedFault) → Implementation → Node InputValueDefinition → Node InputValueDefinition → List PlacedFault
 of_arguments f x wanted given = f x.name.now.text x.interface.now.text x.field_name.now.text (input_tree wanted) (input_tree given)
 
--- of an argument of one of both fields, where these are those of the other
+-- f of these, and of an argument v of the one field, where vs are the arguments of the other
 abbrev pub of_argument : (List ℕ → List ℕ → List ℕ → Field → Field → InputValues Place → Input → List PlacedFault) → Implementation → InputValues Place → Node InputValueDefinition → List PlacedFault
 of_argument f x vs v = of_implementation f x vs (input_tree v)
 
--- a field of that type serves where an interface has one of the type wanted
+-- a field of the type `implementing` may implement an interface's field of the type `wanted`
 abbrev pub serves : SchemaTree Place → TypeTree (Unit {0}) → TypeTree Place → Bool
 serves s wanted implementing = is_valid_type (judged s) wanted (unplaced_type implementing)
 
--- copies of the name and the type of the argument that is wanted, and of the type of the one that is given
+-- copies of the name and the type of the interface's argument, and of the type of the argument of the type's field
 abbrev pub AreArgumentCopies : InputValueDefinition → InputValueDefinition → NameValue → Node «Type» → Node «Type» → Type 0
 AreArgumentCopies wanted given name interface_type actual_type = (name ≡ wanted.name) × ((node_tree type_tree interface_type ≡ node_tree type_tree wanted.ty) × (node_tree type_tree actual_type ≡ node_tree type_tree given.ty))

@@ -1,4 +1,4 @@
--- Private: leads to `ReservedNameAt`. What has a name, besides types, in words.
+-- Private: leads to `ReservedNameAt`. What has a name, apart from types, in words.
 use Rattle.std.specs.Prelude.{ℕ, List, codes}
 use Rattle.rule_types.specs.declared.reserved.Named.{Named}
 use Rattle.rule_types.specs.declared.reserved.Named.TheVariants.{Directive, Field, Argument, InputField, EnumValue}

@@ -9,6 +9,6 @@ use Rattle.schema_components.specs.Names.{same_text}
 use Rattle.schema_types.specs.TypeView.{name_text}
 use Rattle.rule_types.specs.FaultLists.{first_named}
 
--- under each name there is the place of the first of these that has it
+-- the map has under each name the place of the first of these with that name
 abbrev pub AreSeen : {S : Type 0} → IndexMap NameValue Place S → InputValues Place → Type 0
 AreSeen seen vs = (n : NameValue) → get (same_text name_text) seen n ≡ option_map (λ v. v.place) (first_named vs n.text)

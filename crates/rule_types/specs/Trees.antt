@@ -12,13 +12,13 @@ use Rattle.schema_components.specs.Given.{Given, component_name_tree}
 use Rattle.schema_components.specs.declared.component_name.ComponentName.{ComponentName}
 use Rattle.schema_types.specs.SchemaTree.{SchemaTree}
 use Rattle.graphql_schema.specs.SchemaOf.{schema_tree}
-use Rattle.rule_types.specs.declared.judging.Judging.{Judging}
+use Rattle.rule_types.specs.declared.rule_context.RuleContext.{RuleContext}
 
 -- the schema that is judged
-abbrev pub schema_of : Judging → SchemaTree Place
+abbrev pub schema_of : RuleContext → SchemaTree Place
 schema_of judging = schema_tree judging.schema.now
 
--- an argument definition or input field, and all of a list
+-- an argument definition or input field; below, all of a list
 abbrev pub input_tree : Node InputValueDefinition → Placed Place (InputValueTree Place)
 input_tree v = node_tree input_value_tree v
 
@@ -31,6 +31,6 @@ field_tree f = node_tree field_definition_tree f
 abbrev pub directive_tree : Node DirectiveDefinition → Placed Place (DirectiveDefinitionTree Place)
 directive_tree d = node_tree directive_definition_tree d
 
--- a root, if it is there
+-- a root, if it is defined
 abbrev pub root_tree : Option ComponentName → Option (Given Place (Text Place))
 root_tree root = option_map component_name_tree root

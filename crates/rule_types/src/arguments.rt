@@ -7,9 +7,9 @@ ghost use Rattle.rule_types.specs.Seen.{AreSeen};
 ghost use Rattle.rule_types.specs.FaultLists.{unique_input_value, input_value_faults, argument_faults, arguments_faults};
 ghost use Rattle.rule_types.specs.Trees.{schema_of, input_tree, input_trees};
 
-use crate::judging::Judging;
 use crate::look_ups::kind_inside;
 use crate::reserved::{Named, reserved_name};
+use crate::rule_context::RuleContext;
 use crate::types_used::{input_type, undefined_type};
 use fault_data::{DiagnosticData, Fault, tell};
 use graphql_names::{Name, Node, SourceSpan};
@@ -20,7 +20,7 @@ use tree_directives::InputValueDefinition;
 /// Tells the faults of the argument definitions of a field or directive.
 #[tactic(auto, using(crate::proofs::RoomSteps::room_steps))]
 pub(crate) fn check_arguments(
-    judging: &Judging<'_>,
+    judging: &RuleContext<'_>,
     arguments: &[Node<InputValueDefinition>],
     faults: &mut Vec<Fault>,
 ) -> Result<(), AllocError>
@@ -32,7 +32,7 @@ pub(crate) fn check_arguments(
 
 /// Tells the faults of each argument definition.
 fn check_each_argument(
-    judging: &Judging<'_>,
+    judging: &RuleContext<'_>,
     arguments: &[Node<InputValueDefinition>],
     faults: &mut Vec<Fault>,
 ) -> Result<(), AllocError>
@@ -46,7 +46,7 @@ fn check_each_argument(
 
 /// Tells the faults of an argument definition.
 fn check_argument(
-    judging: &Judging<'_>,
+    judging: &RuleContext<'_>,
     argument: &Node<InputValueDefinition>,
     faults: &mut Vec<Fault>,
 ) -> Result<(), AllocError>
@@ -59,7 +59,7 @@ fn check_argument(
 /// Tells the faults of an argument definition or input field of that name.
 #[tactic(auto, using(crate::proofs::RoomSteps::room_steps))]
 pub(crate) fn check_input_value(
-    judging: &Judging<'_>,
+    judging: &RuleContext<'_>,
     name: &Name,
     input: &Node<InputValueDefinition>,
     named: Named,
@@ -77,15 +77,15 @@ pub(crate) fn check_input_value(
         named.describe(),
         faults,
     )?;
-    // At most one of these two: a type that is not there has no kind.
+    // At most one of these two tells a fault: a type that is not defined has no kind.
     undefined_type(ty, kind, faults)?;
     input_type(input, kind, faults)
 }
 
-/// Tells each argument definition of which an earlier one has the name.
-// Input fields need no such rule: folding tells those, and keeps the first.
+/// Tells each argument definition whose name an earlier one has.
+// Input fields need no such rule: folding tells repeated ones, and keeps the first.
 fn check_repeats(
-    judging: &Judging<'_>,
+    judging: &RuleContext<'_>,
     arguments: &[Node<InputValueDefinition>],
     faults: &mut Vec<Fault>,
 ) -> Result<(), AllocError>

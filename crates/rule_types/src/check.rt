@@ -1,19 +1,19 @@
-//! Tells which rules a schema breaks on its roots, names, the types that are named, and what a type must have.
+//! Tells which rules a schema breaks on its roots, names and the types that are referred to, and which against empty types.
 ghost use Rattle.std.specs.Prelude.{OnOk};
 ghost use Rattle.graphql_schema.specs.SchemaOf.{schema_tree};
 ghost use Rattle.fault_data.specs.Adds.{Adds};
 ghost use Rattle.rule_types.specs.Adds.{AddsThese};
 ghost use Rattle.schema_types.specs.Distinct.{AreAllDistinct};
-ghost use Rattle.fault_data.specs.in_rule_definitions.Told.{Told};
+ghost use Rattle.fault_data.specs.in_rule_definitions.PlacedFaults.{Told};
 ghost use Rattle.rule_types.specs.TypesBreak.{TypesBreak};
 ghost use Rattle.rule_types.specs.FaultLists.{parts_faults, type_faults, directive_faults, types_faults, directives_faults, faults_in};
 ghost use Rattle.rule_types.specs.Trees.{schema_of, directive_tree};
 
 use crate::arguments::check_arguments;
-use crate::judging::Judging;
 use crate::members::{check_fields, check_input_fields, check_members, check_values};
 use crate::reserved::{Named, reserved_name};
 use crate::roots::check_roots;
+use crate::rule_context::RuleContext;
 use fault_data::Fault;
 use graphql_names::{Name, Node};
 use graphql_schema::Schema;
@@ -21,8 +21,8 @@ use schema_types::ExtendedType;
 use std::alloc::{AllocError, Global};
 use tree_directives::DirectiveDefinition;
 
-/// Tells each fault of the rules on roots, names, the types that are named, and what a type must have, as far as there is
-/// room. It fails only where memory is refused; then some may be told.
+/// Tells each fault of the rules on roots, names and the types that are referred to, and of those against empty types,
+/// as far as there is room. It fails only where memory is refused; then some may be told.
 pub fn check_types(
     alloc: Global,
     schema: &Schema,
@@ -31,13 +31,13 @@ pub fn check_types(
     requires distinct { AreAllDistinct (schema_tree schema.now) }
     ensures { OnOk result (Adds faults.old faults.new (Told (schema_tree schema.now) TypesBreak)) }
 {
-    let judging = Judging { alloc, schema };
+    let judging = RuleContext { alloc, schema };
     check_all(&judging, faults)
 }
 
 /// Tells the faults of the roots, then those of each type, then those of each directive definition.
 #[tactic(auto, using(crate::proofs::RoomSteps::room_steps))]
-fn check_all(judging: &Judging<'_>, faults: &mut Vec<Fault>) -> Result<(), AllocError>
+fn check_all(judging: &RuleContext<'_>, faults: &mut Vec<Fault>) -> Result<(), AllocError>
     ensures { OnOk result (AddsThese faults.old faults.new (faults_in judging.now.schema.now)) }
 {
     check_roots(judging, faults)?;
@@ -47,7 +47,7 @@ fn check_all(judging: &Judging<'_>, faults: &mut Vec<Fault>) -> Result<(), Alloc
 
 /// Tells the faults of each type.
 #[tactic(auto, using(crate::proofs::RoomSteps::room_steps))]
-fn check_each_type(judging: &Judging<'_>, faults: &mut Vec<Fault>) -> Result<(), AllocError>
+fn check_each_type(judging: &RuleContext<'_>, faults: &mut Vec<Fault>) -> Result<(), AllocError>
     ensures { OnOk result (AddsThese faults.old faults.new (types_faults (schema_of judging.now) judging.now.schema.now.types.entries)) }
 {
     for (name, ty) in &judging.schema.types {
@@ -59,7 +59,7 @@ fn check_each_type(judging: &Judging<'_>, faults: &mut Vec<Fault>) -> Result<(),
 /// Tells the faults of a type.
 #[tactic(auto, using(crate::proofs::RoomSteps::room_steps))]
 fn check_type(
-    judging: &Judging<'_>,
+    judging: &RuleContext<'_>,
     name: &Name,
     ty: &ExtendedType,
     faults: &mut Vec<Fault>,
@@ -71,9 +71,9 @@ fn check_type(
     check_parts(judging, name, ty, faults)
 }
 
-/// Tells the faults of what a type has.
+/// Tells the faults of the parts of a type.
 fn check_parts(
-    judging: &Judging<'_>,
+    judging: &RuleContext<'_>,
     name: &Name,
     ty: &ExtendedType,
     faults: &mut Vec<Fault>,
@@ -100,7 +100,10 @@ fn check_parts(
 
 /// Tells the faults of each directive definition.
 #[tactic(auto, using(crate::proofs::RoomSteps::room_steps))]
-fn check_each_directive(judging: &Judging<'_>, faults: &mut Vec<Fault>) -> Result<(), AllocError>
+fn check_each_directive(
+    judging: &RuleContext<'_>,
+    faults: &mut Vec<Fault>,
+) -> Result<(), AllocError>
     ensures { OnOk result (AddsThese faults.old faults.new (directives_faults (schema_of judging.now) judging.now.schema.now.directive_definitions.entries)) }
 {
     for (name, directive) in &judging.schema.directive_definitions {
@@ -112,7 +115,7 @@ fn check_each_directive(judging: &Judging<'_>, faults: &mut Vec<Fault>) -> Resul
 /// Tells the faults of a directive definition.
 #[tactic(auto, using(crate::proofs::RoomSteps::room_steps))]
 fn check_directive(
-    judging: &Judging<'_>,
+    judging: &RuleContext<'_>,
     name: &Name,
     directive: &Node<DirectiveDefinition>,
     faults: &mut Vec<Fault>,

@@ -9,7 +9,7 @@ use tree_directives::InputValueDefinition;
 use tree_literals::Type;
 
 /// Copies of the names of a type, an interface and a field.
-// The copies for a fault are made under one `?`, and not under one each with what is owned so far.
+// One `?` for all copies of a fault, instead of one for each of them while the copies before it are owned.
 pub(crate) fn copy_names(
     name: &Name,
     interface: &Name,
@@ -27,7 +27,8 @@ pub(crate) fn copy_types(a: &Type, b: &Type) -> Result<(Type, Type), AllocError>
     Ok((a.clone()?, b.clone()?))
 }
 
-/// Copies of the name and the type of an interface's argument, and of the type of a type's.
+/// Copies of the name and the type of an interface's argument, and of the type of the argument of a type's
+/// field.
 pub(crate) fn copy_arguments(
     wanted: &InputValueDefinition,
     given: &InputValueDefinition,

@@ -1,4 +1,4 @@
-//! A type must have something (sections 3.6 to 3.10).
+//! A type must not be empty (sections 3.6 to 3.10).
 ghost use Rattle.std.specs.Prelude.{◌≡◌, map, IfOk, OnOk};
 ghost use Rattle.rule_types.specs.Adds.{AddsThese};
 ghost use Rattle.fault_data.specs.in_rule_definitions.Rules.{extension_places};
@@ -6,7 +6,7 @@ ghost use Rattle.schema_types.specs.TypeView.{extended_type};
 ghost use Rattle.schema_components.specs.Given.{place_of};
 ghost use Rattle.rule_types.specs.FaultLists.{empty_field_set, empty_member_set, empty_value_set, empty_input_value_set};
 
-use crate::judging::Judging;
+use crate::rule_context::RuleContext;
 use fault_data::{DiagnosticData, Fault, tell};
 use graphql_names::{Name, SourceSpan};
 use indexmap::{IndexMap, IndexSet};
@@ -18,7 +18,7 @@ use tree_type_members::{EnumValueDefinition, FieldDefinition};
 
 /// EmptyFieldSet: an object or interface type is valid only if it has a field (sections 3.6 and 3.7).
 pub(crate) fn empty_field_set(
-    judging: &Judging<'_>,
+    judging: &RuleContext<'_>,
     name: &Name,
     ty: &ExtendedType,
     fields: &IndexMap<Name, Component<FieldDefinition>>,
@@ -46,7 +46,7 @@ pub(crate) fn empty_field_set(
 
 /// EmptyMemberSet: a union type is valid only if it has a member (section 3.8).
 pub(crate) fn empty_member_set(
-    judging: &Judging<'_>,
+    judging: &RuleContext<'_>,
     name: &Name,
     ty: &ExtendedType,
     members: &IndexSet<ComponentName>,
@@ -74,7 +74,7 @@ pub(crate) fn empty_member_set(
 
 /// EmptyValueSet: an enum type is valid only if it has a value (section 3.9).
 pub(crate) fn empty_value_set(
-    judging: &Judging<'_>,
+    judging: &RuleContext<'_>,
     name: &Name,
     ty: &ExtendedType,
     values: &IndexMap<Name, Component<EnumValueDefinition>>,
@@ -102,7 +102,7 @@ pub(crate) fn empty_value_set(
 
 /// EmptyInputValueSet: an input object type is valid only if it has a field (section 3.10).
 pub(crate) fn empty_input_value_set(
-    judging: &Judging<'_>,
+    judging: &RuleContext<'_>,
     name: &Name,
     ty: &ExtendedType,
     fields: &IndexMap<Name, Component<InputValueDefinition>>,
@@ -128,7 +128,7 @@ pub(crate) fn empty_input_value_set(
     )
 }
 
-/// The places of the extensions of a type, by first appearance.
+/// The places of the extensions of a type, each once, in the order of their first components.
 fn extension_places(alloc: Global, ty: &ExtendedType) -> Result<Vec<Option<SourceSpan>>, AllocError>
     ensures { IfOk result (λ places. places.items ≡ extension_places (extended_type ty.now)) }
 {

@@ -15,7 +15,7 @@ use std::alloc::AllocError;
 
 /// Whether `name` is that of a member of the union `wanted`, or of a type that lists the interface `wanted`. It fails only
 /// where a name is shared as often as can be counted.
-// The schema's own `is_subtype` goes through the list of the interfaces. That is too slow for each field of a type.
+// The schema's own `is_subtype` scans the list of the interfaces. That is too slow for each field of a type.
 pub(crate) fn find_subtype(schema: &Schema, wanted: &Name, name: &Name) -> Result<bool, AllocError>
     ensures { IfOk result (λ found. found ≡ is_subtype (schema_tree schema.now) wanted.now.text name.now.text) }
 {

@@ -84,7 +84,7 @@ fn own_named<'a>(own: &DefinedArguments<'a>, name: &Name) -> Option<&'a Node<Inp
     }
 }
 
-/// The first of these arguments that has that name; they are looked through.
+/// The first of these arguments that has that name; the list is scanned.
 fn find_listed<'a>(
     arguments: &'a [Node<InputValueDefinition>],
     name: &Name,
@@ -99,7 +99,7 @@ fn find_listed<'a>(
     None
 }
 
-/// The first of these arguments that has that name; `numbers` has where it stands.
+/// The first of these arguments that has that name; `numbers` has its index.
 fn find_numbered<'a>(
     arguments: &'a [Node<InputValueDefinition>],
     numbers: &IndexMap<Name, usize>,
@@ -232,7 +232,7 @@ fn invalid_implementation_field_argument_type(
 ) -> Result<(), AllocError>
     ensures { OnOk result (AddsThese faults.old faults.new (of_arguments invalid_implementation_field_argument_type implementation.now wanted.now given.now)) }
 {
-    // The same type and no subtype: what an argument takes does not vary, as what a field gives does.
+    // The same type and no subtype: the types of arguments are invariant, where those of fields are covariant.
     if same_type(wanted.content().ty.content(), given.content().ty.content()) {
         return Ok(());
     }
@@ -275,7 +275,7 @@ fn extra_required_implementation_field_argument(
 ) -> Result<(), AllocError>
     ensures { OnOk result (AddsThese faults.old faults.new (of_implementation extra_required_argument implementation.now (input_tree argument.now))) }
 {
-    // Who selects on the interface does not know of it: so it must do without, by a default or as null.
+    // A selection on the interface cannot give this argument, so it must be nullable or have a default.
     if !argument.content().is_required() {
         return Ok(());
     }

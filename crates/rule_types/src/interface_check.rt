@@ -6,7 +6,7 @@ ghost use Rattle.fault_data.specs.Adds.{Adds};
 ghost use Rattle.rule_types.specs.Adds.{AddsThese};
 ghost use Rattle.schema_types.specs.Distinct.{AreAllDistinct};
 ghost use Rattle.fault_data.specs.in_rule_definitions.Rules.{InterfacesBreak};
-ghost use Rattle.fault_data.specs.in_rule_definitions.Told.{Told};
+ghost use Rattle.fault_data.specs.in_rule_definitions.PlacedFaults.{Told};
 ghost use Rattle.rule_types.specs.InterfaceFaults.{over_faults, listed_faults, named_faults, type_faults, types_faults};
 ghost use Rattle.schema_inputs.specs.Inputs.{AreInputsOf};
 ghost use Rattle.rule_types.specs.InterfaceTrees.{StandsUnder, Stands, interface_tree, schema_of, of_implementer};
@@ -54,8 +54,8 @@ fn check_each_type(
     ensures { OnOk result (AddsThese faults.old faults.new (types_faults (schema_of judging.now) judging.now.schema.now.types.entries)) }
 {
     for (name, ty) in &judging.schema.types {
-        // A full list stays as it is. To go on would take a turn for each field of each interface of each type: millions for
-        // a short text.
+        // A full list stays unchanged. Going on would still visit each field of each interface of each type: millions
+        // for a short text.
         if is_full(faults) {
             return Ok(());
         }
@@ -99,7 +99,7 @@ fn check_interface(
     check_listed(judging, implementer, faults)
 }
 
-/// Tells the faults of a type over an interface of that name, which it lists, whether it is there or not.
+/// Tells the faults of a type over an interface of that name, which it lists, whether it is defined or not.
 fn check_listed(
     judging: &InterfaceJudging<'_>,
     implementer: &Implementer<'_>,
@@ -115,7 +115,7 @@ fn check_listed(
     }
 }
 
-/// Tells the faults of a type over an interface that it lists and that is there.
+/// Tells the faults of a type over an interface that it lists and that is defined.
 fn check_over(
     judging: &InterfaceJudging<'_>,
     implementer: &Implementer<'_>,

@@ -47,8 +47,8 @@ fn check_field(
     requires { Stands judging.now implementer.now }
     ensures { OnOk result (AddsThese faults.old faults.new (of_field (field_faults (schema_of judging.now)) implementer.now field_name.now wanted.now)) }
 {
-    // To go on with a full list would look at all arguments of the type's field again for each interface that has the
-    // field, and at all members of the union that it gives.
+    // With a full list, going on would scan all arguments of the type's field for each interface that has the field,
+    // and all members of the union that is the field's type.
     if is_full(faults) {
         return Ok(());
     }

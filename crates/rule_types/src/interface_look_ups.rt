@@ -39,7 +39,7 @@ pub(crate) fn implements(ty: &ExtendedType, interface: &ComponentName) -> bool
     }
 }
 
-/// The field of a type that stands under the name.
+/// The field of that name of a type.
 pub(crate) fn own_field<'a>(
     ty: &'a ExtendedType,
     name: &Name,

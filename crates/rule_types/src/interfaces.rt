@@ -43,8 +43,7 @@ pub(crate) fn recursive_interface_definition(
         return Ok(());
     }
     let interface = &implementer.interface.name;
-    // A longer circle needs no search: each interface of it would have to list itself, by
-    // TransitiveImplementedInterfaces.
+    // A longer cycle needs no search: by TransitiveImplementedInterfaces, each interface of it would have to list itself.
     if interface.as_str() != implementer.name.as_str() {
         return Ok(());
     }

@@ -21,11 +21,11 @@ mod interface_fields;
 mod interface_judging;
 mod interface_look_ups;
 mod interfaces;
-mod judging;
 mod look_ups;
 mod members;
 mod reserved;
 mod roots;
+mod rule_context;
 mod types_used;
 mod valid_types;
 

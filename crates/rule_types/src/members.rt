@@ -1,4 +1,4 @@
-//! The rules on what a type has: fields, members, values or input fields.
+//! The rules on the parts of a type: fields, members, values or input fields.
 ghost use Rattle.std.specs.Prelude.{OnOk};
 ghost use Rattle.graphql_names.specs.Placed.{name_tree, node_tree};
 ghost use Rattle.tree_type_members.specs.TypeSystemTree.{enum_value_tree};
@@ -9,9 +9,9 @@ ghost use Rattle.rule_types.specs.Trees.{schema_of, input_tree, field_tree};
 
 use crate::arguments::{check_arguments, check_input_value};
 use crate::empty::{empty_field_set, empty_input_value_set, empty_member_set, empty_value_set};
-use crate::judging::Judging;
 use crate::look_ups::{kind_inside, kind_named};
 use crate::reserved::{Named, reserved_name};
+use crate::rule_context::RuleContext;
 use crate::types_used::{output_type, undefined_name, undefined_type, union_member_object_type};
 use fault_data::Fault;
 use graphql_names::{Name, Node};
@@ -25,7 +25,7 @@ use tree_type_members::{EnumValueDefinition, FieldDefinition};
 /// Tells the faults of the fields of an object or interface.
 #[tactic(auto, using(crate::proofs::RoomSteps::room_steps))]
 pub(crate) fn check_fields(
-    judging: &Judging<'_>,
+    judging: &RuleContext<'_>,
     name: &Name,
     ty: &ExtendedType,
     fields: &IndexMap<Name, Component<FieldDefinition>>,
@@ -42,7 +42,7 @@ pub(crate) fn check_fields(
 
 /// Tells the faults of a field.
 fn check_field(
-    judging: &Judging<'_>,
+    judging: &RuleContext<'_>,
     name: &Name,
     field: &Node<FieldDefinition>,
     faults: &mut Vec<Fault>,
@@ -56,7 +56,7 @@ fn check_field(
 /// Tells the faults of the name and the type of a field.
 #[tactic(auto, using(crate::proofs::RoomSteps::room_steps))]
 fn check_field_type(
-    judging: &Judging<'_>,
+    judging: &RuleContext<'_>,
     name: &Name,
     field: &Node<FieldDefinition>,
     faults: &mut Vec<Fault>,
@@ -72,7 +72,7 @@ fn check_field_type(
         Named::Field.describe(),
         faults,
     )?;
-    // At most one of these two: a type that is not there has no kind.
+    // At most one of these two tells a fault: a type that is not defined has no kind.
     undefined_type(&content.ty, kind, faults)?;
     output_type(name, field, kind, faults)
 }
@@ -80,7 +80,7 @@ fn check_field_type(
 /// Tells the faults of the members of a union.
 #[tactic(auto, using(crate::proofs::RoomSteps::room_steps))]
 pub(crate) fn check_members(
-    judging: &Judging<'_>,
+    judging: &RuleContext<'_>,
     name: &Name,
     ty: &ExtendedType,
     members: &IndexSet<ComponentName>,
@@ -98,7 +98,7 @@ pub(crate) fn check_members(
 /// Tells the faults of a member of a union.
 #[tactic(auto, using(crate::proofs::RoomSteps::room_steps))]
 fn check_member(
-    judging: &Judging<'_>,
+    judging: &RuleContext<'_>,
     member: &Name,
     faults: &mut Vec<Fault>,
 ) -> Result<(), AllocError>
@@ -112,7 +112,7 @@ fn check_member(
 /// Tells the faults of the values of an enum.
 #[tactic(auto, using(crate::proofs::RoomSteps::room_steps))]
 pub(crate) fn check_values(
-    judging: &Judging<'_>,
+    judging: &RuleContext<'_>,
     name: &Name,
     ty: &ExtendedType,
     values: &IndexMap<Name, Component<EnumValueDefinition>>,
@@ -148,7 +148,7 @@ fn check_value(
 /// Tells the faults of the fields of an input object.
 #[tactic(auto, using(crate::proofs::RoomSteps::room_steps))]
 pub(crate) fn check_input_fields(
-    judging: &Judging<'_>,
+    judging: &RuleContext<'_>,
     name: &Name,
     ty: &ExtendedType,
     fields: &IndexMap<Name, Component<InputValueDefinition>>,
@@ -163,7 +163,7 @@ pub(crate) fn check_input_fields(
 /// Tells the faults of each field of an input object.
 #[tactic(auto, using(crate::proofs::RoomSteps::room_steps))]
 fn check_each_input_field(
-    judging: &Judging<'_>,
+    judging: &RuleContext<'_>,
     fields: &IndexMap<Name, Component<InputValueDefinition>>,
     faults: &mut Vec<Fault>,
 ) -> Result<(), AllocError>
@@ -177,7 +177,7 @@ fn check_each_input_field(
 
 /// Tells the faults of a field of an input object.
 fn check_input_field(
-    judging: &Judging<'_>,
+    judging: &RuleContext<'_>,
     name: &Name,
     field: &Node<InputValueDefinition>,
     faults: &mut Vec<Fault>,

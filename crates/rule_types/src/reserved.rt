@@ -45,7 +45,7 @@ pub(crate) fn reserved_name(
 ) -> Result<(), AllocError>
     ensures { OnOk result (AddsThese faults.old faults.new (reserved_name built_in name.now.text location describe.now)) }
 {
-    // Introspection's own names begin so.
+    // The names of introspection begin with `__`.
     if built_in {
         return Ok(());
     }

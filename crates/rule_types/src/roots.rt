@@ -6,8 +6,8 @@ ghost use Rattle.rule_types.specs.Adds.{AddsThese};
 ghost use Rattle.rule_types.specs.FaultLists.{query_root_operation_type, root_operation_object_type, duplicate_root_operation_type, is_same_root, subscription_again, repeated_roots, root_faults, roots_faults};
 ghost use Rattle.rule_types.specs.Trees.{schema_of, root_tree};
 
-use crate::judging::Judging;
 use crate::look_ups::kind_named;
+use crate::rule_context::RuleContext;
 use crate::types_used::undefined_name;
 use fault_data::{DiagnosticData, Fault, tell};
 use graphql_names::{Name, Node};
@@ -18,7 +18,10 @@ use tree_operations::OperationType;
 
 /// Tells the faults of the roots.
 #[tactic(auto, using(crate::proofs::RoomSteps::room_steps))]
-pub(crate) fn check_roots(judging: &Judging<'_>, faults: &mut Vec<Fault>) -> Result<(), AllocError>
+pub(crate) fn check_roots(
+    judging: &RuleContext<'_>,
+    faults: &mut Vec<Fault>,
+) -> Result<(), AllocError>
     ensures { OnOk result (AddsThese faults.old faults.new (roots_faults (schema_of judging.now))) }
 {
     let definition = &judging.schema.schema_definition;
@@ -30,10 +33,10 @@ pub(crate) fn check_roots(judging: &Judging<'_>, faults: &mut Vec<Fault>) -> Res
     check_repeats(definition, faults)
 }
 
-/// Tells the faults of a root, if it is there.
+/// Tells the faults of a root, if it is defined.
 #[tactic(auto, using(crate::proofs::RoomSteps::room_steps))]
 fn check_root(
-    judging: &Judging<'_>,
+    judging: &RuleContext<'_>,
     root: &Option<ComponentName>,
     faults: &mut Vec<Fault>,
 ) -> Result<(), AllocError>
@@ -49,7 +52,7 @@ fn check_root(
     }
 }
 
-/// Tells each root of which an earlier one is the same type.
+/// Tells each root whose type an earlier root has.
 #[tactic(auto, using(crate::proofs::RoomSteps::room_steps))]
 fn check_repeats(
     definition: &Node<SchemaDefinition>,
@@ -150,7 +153,7 @@ fn duplicate_root_operation_type(
     }
 }
 
-/// Tells the root of subscriptions, where that of queries or else that of mutations is the same type.
+/// Tells the root of subscriptions, if it has the type of that of queries, or else that of mutations.
 fn check_subscription(
     definition: &Node<SchemaDefinition>,
     faults: &mut Vec<Fault>,
@@ -158,7 +161,7 @@ fn check_subscription(
     ensures { OnOk result (AddsThese faults.old faults.new (subscription_again (schema_roots definition.now))) }
 {
     let roots = definition.content();
-    // Where all three roots are one type, two faults are told and not three.
+    // If all three roots have one type, two faults are told and not three.
     if is_same_root(&roots.query, &roots.subscription) {
         return duplicate_root_operation_type(
             OperationType::Query,
@@ -177,7 +180,7 @@ fn check_subscription(
     )
 }
 
-/// Whether both roots are there, and the same type.
+/// Whether both roots are defined and have the same type.
 fn is_same_root(a: &Option<ComponentName>, b: &Option<ComponentName>) -> bool
     ensures { result ≡ is_same_root (root_tree a.now) (root_tree b.now) }
 {

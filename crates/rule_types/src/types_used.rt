@@ -1,4 +1,5 @@
-//! Rules on the types that are named (sections 3.4.2, 3.6, 3.8 and 3.10). Each is given the kind of that type, if it is there.
+//! Rules on the types that are referred to (sections 3.4.2, 3.6, 3.8 and 3.10). Each is given the kind of that type, if
+//! it is defined.
 ghost use Rattle.std.specs.Prelude.{◌≡◌, OnOk};
 ghost use Rattle.graphql_names.specs.Placed.{name_tree};
 ghost use Rattle.tree_literals.specs.TypeTree.{type_tree};
@@ -68,7 +69,7 @@ fn is_scalar_name(text: &str) -> bool
     text == "Int" || text == "Float" || text == "String" || text == "Boolean" || text == "ID"
 }
 
-/// OutputType: a field is valid only if its type is an output type (sections 3.6 and 3.7). The field stands under `name`.
+/// OutputType: a field is valid only if its type is an output type (sections 3.6 and 3.7). The field has the name `name`.
 pub(crate) fn output_type(
     name: &Name,
     field: &Node<FieldDefinition>,

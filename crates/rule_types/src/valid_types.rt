@@ -1,4 +1,4 @@
-//! Which types may stand where an interface has one (section 3.6, IsValidImplementationFieldType).
+//! Which types a field may have where its interface's field has one (section 3.6, IsValidImplementationFieldType).
 ghost use Rattle.std.specs.Prelude.{◌≡◌, ◌||◌, bytes_eq};
 ghost use Rattle.graphql_names.specs.Placed.{name_tree, unplaced_text};
 ghost use Rattle.tree_literals.specs.TypeTree.{NamedTree, NonNullNamedTree, type_tree, unplaced_type};
@@ -12,7 +12,7 @@ use graphql_names::Name;
 use graphql_schema::Schema;
 use tree_literals::Type;
 
-/// Whether a field of type `implementing` serves where an interface has one of type `interface_type`: the same name or
+/// Whether a field of type `implementing` may implement an interface's field of type `interface_type`: the same name or
 /// that of a subtype, inside the same lists, and non-null wherever the interface's is.
 #[tactic(auto, using(tree_literals::proofs::Trees::type_tree_rules))]
 pub fn is_valid_implementation_field_type(
@@ -38,7 +38,7 @@ pub fn is_valid_implementation_field_type(
     }
 }
 
-/// Whether a field of type `implementing` serves where an interface has the type of that name.
+/// Whether a field of type `implementing` may implement an interface's field of the type of that name.
 #[tactic(auto, using(tree_literals::proofs::Trees::type_tree_rules))]
 fn serves_named(schema: &Schema, wanted: &Name, implementing: &Type) -> bool
     ensures { result ≡ serves (schema_tree schema.now) (NamedTree (unplaced_text (name_tree wanted.now))) (type_tree implementing.now) }
@@ -49,7 +49,7 @@ fn serves_named(schema: &Schema, wanted: &Name, implementing: &Type) -> bool
     }
 }
 
-/// Whether a field of type `implementing` serves where an interface has the type of that name, non-null.
+/// Whether a field of type `implementing` may implement an interface's field of the type of that name, non-null.
 #[tactic(auto, using(tree_literals::proofs::Trees::type_tree_rules))]
 fn serves_non_null(schema: &Schema, wanted: &Name, implementing: &Type) -> bool
     ensures { result ≡ serves (schema_tree schema.now) (NonNullNamedTree (unplaced_text (name_tree wanted.now))) (type_tree implementing.now) }
@@ -69,7 +69,7 @@ fn serves(schema: &Schema, wanted: &Name, name: &Name) -> bool
     }
     match find_subtype(schema, wanted, name) {
         Ok(found) => found,
-        // The schema's own search says the same, and needs no copy of a name.
+        // The schema's own search gives the same answer, and needs no copy of a name.
         Err(_) => schema.is_subtype(wanted, name),
     }
 }

@@ -4,7 +4,7 @@ use Rattle.std.specs.declared.alloc.Global.{Global}
 use Rattle.fault_data.specs.FaultView.{faults_of}
 use Rattle.fault_data.specs.Room.{◌⊕◌}
 use Rattle.fault_data.specs.declared.fault.Fault.{Fault}
-use Rattle.fault_data.specs.in_rule_definitions.Told.{PlacedFault}
+use Rattle.fault_data.specs.in_rule_definitions.PlacedFaults.{PlacedFault}
 use Rattle.fault_data.specs.Adds.{Adds}
 use Rattle.fault_data.proofs.Room.{room_both}
 use Rattle.rule_values.proofs.Tells.{Tells, tells_both}

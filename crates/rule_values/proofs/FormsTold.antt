@@ -16,7 +16,7 @@ use Rattle.tree_directives.specs.DirectiveQueries.{is_required_input}
 use Rattle.tree_operations.specs.OperationTree.{VariableDefinitionTree}
 use Rattle.schema_components.specs.Names.{Entries}
 use Rattle.schema_components.specs.Given.{Given, plain_given}
-use Rattle.schema_types.proofs.in_values.Decided.{through, pair_decides}
+use Rattle.schema_types.proofs.in_operations.Decided.{through, pair_decides}
 use Rattle.graphql_schema.specs.in_schema_types.SchemaTree.{SchemaType, SchemaTree, same_kind}
 use Rattle.graphql_schema.specs.in_schema_types.Plain.{plain_type}
 use Rattle.graphql_schema.specs.in_schema_types.Looks.{TypeLooks, type_looks}
@@ -30,7 +30,7 @@ use Rattle.fault_data.specs.in_rule_definitions.Faults.{wrong}
 use Rattle.fault_data.specs.in_rule_definitions.Judged.{Judged, judged, is_built_in_scalar, IsBuiltInScalar, IsCustomScalar}
 use Rattle.fault_data.specs.in_rule_definitions.Names.{defined_name}
 use Rattle.fault_data.specs.in_rule_definitions.Values.{FitsForm, UnsupportedValueTypeAt, IntCoercionErrorAt, UndefinedEnumValueAt, UndefinedInputValueAt, RequiredFieldAt, FormBreaks}
-use Rattle.fault_data.specs.in_rule_definitions.Told.{PlacedFault}
+use Rattle.fault_data.specs.in_rule_definitions.PlacedFaults.{PlacedFault}
 use Rattle.rule_values.specs.Wanting.{wanted}
 use Rattle.rule_values.specs.ValueFaults.{is_key, fits_32_bits, is_custom_scalar, is_scalar_so, takes_integers, takes_floats, takes_strings, takes_booleans, given_entry, is_missing_entry, each_first, fits_form, unsupported_value_type, int_coercion_error, undefined_enum_value, undefined_key, undefined_input_value, required_field, required_fields, form_faults}
 use Rattle.rule_values.proofs.Tells.{no_true, no_some, Tells, tells_same, tells_both, tells_nothing, tells_one, tells_one_as, tells_when, tells_unless, tells_present, first_told, tells_first}

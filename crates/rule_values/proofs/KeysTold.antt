@@ -11,7 +11,7 @@ use Rattle.fault_data.specs.in_rule_definitions.Words.{Present, AtSomeIndex, IsF
 use Rattle.fault_data.specs.in_rule_definitions.GivenValues.{entry_list}
 use Rattle.fault_data.specs.in_rule_definitions.Faults.{wrong}
 use Rattle.fault_data.specs.in_rule_definitions.Values.{UniqueInputValueIn, UniqueInputValueInItems, UniqueInputValueInEntries}
-use Rattle.fault_data.specs.in_rule_definitions.Told.{PlacedFault}
+use Rattle.fault_data.specs.in_rule_definitions.PlacedFaults.{PlacedFault}
 use Rattle.rule_values.specs.KeyFaults.{repeated_key, repeated_keys, key_faults, key_faults_items, key_faults_entries}
 use Rattle.rule_values.proofs.Tells.{no_true, no_some, Tells, tells_same, tells_both, tells_nothing, tells_one, tells_present}
 

@@ -14,7 +14,7 @@ use Rattle.schema_inputs.specs.Inputs.{required_entries, listed_field}
 use Rattle.schema_inputs.proofs.KnownInputs.{only_those}
 use Rattle.fault_data.specs.in_rule_definitions.Diagnostics.{RequiredField}
 use Rattle.fault_data.specs.in_rule_definitions.Faults.{wrong}
-use Rattle.fault_data.specs.in_rule_definitions.Told.{PlacedFault}
+use Rattle.fault_data.specs.in_rule_definitions.PlacedFaults.{PlacedFault}
 use Rattle.rule_values.specs.ValueFaults.{required_if}
 
 module _ (missing : List ℕ → Bool) (n : List ℕ) (p : Place) where

@@ -15,7 +15,7 @@ use Rattle.graphql_schema.specs.in_schema_types.SchemaTree.{SchemaTree}
 use Rattle.graphql_schema.specs.in_schema_types.TypeView.{name_text}
 use Rattle.fault_data.specs.Room.{◌⊕◌}
 use Rattle.fault_data.specs.in_rule_definitions.GivenValues.{Variables}
-use Rattle.fault_data.specs.in_rule_definitions.Told.{PlacedFault}
+use Rattle.fault_data.specs.in_rule_definitions.PlacedFaults.{PlacedFault}
 use Rattle.fault_data.proofs.Room.{room_both}
 use Rattle.rule_values.specs.ValueFaults.{is_key, each_first, item_faults, type_faults}
 

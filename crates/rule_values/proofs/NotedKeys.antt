@@ -14,7 +14,7 @@ use Rattle.fault_data.specs.Room.{◌⊕◌}
 use Rattle.fault_data.specs.in_rule_definitions.Diagnostics.{UniqueInputValue}
 use Rattle.fault_data.specs.in_rule_definitions.Faults.{wrong}
 use Rattle.fault_data.specs.in_rule_definitions.GivenValues.{Variables}
-use Rattle.fault_data.specs.in_rule_definitions.Told.{PlacedFault}
+use Rattle.fault_data.specs.in_rule_definitions.PlacedFaults.{PlacedFault}
 use Rattle.fault_data.proofs.Room.{room_both}
 use Rattle.schema_inputs.specs.Firsts.{first_told}
 use Rattle.rule_values.specs.KeyFaults.{key_again, repeated_key, repeated_keys}

@@ -18,7 +18,7 @@ use Rattle.fault_data.specs.in_rule_definitions.Words.{Present}
 use Rattle.fault_data.specs.in_rule_definitions.Judged.{judged}
 use Rattle.fault_data.specs.in_rule_definitions.GivenValues.{Wanted, Variables, wanted_name}
 use Rattle.fault_data.specs.in_rule_definitions.Values.{wanted_item, FitsForm, FormBreaks, TypeBreaks, TypeBreaksItems, TypeBreaksEntries}
-use Rattle.fault_data.specs.in_rule_definitions.Told.{PlacedFault}
+use Rattle.fault_data.specs.in_rule_definitions.PlacedFaults.{PlacedFault}
 use Rattle.rule_values.specs.Wanting.{wanted}
 use Rattle.rule_values.specs.ValueFaults.{is_key, fits_form, form_faults, faults_with, inner_faults, item_faults, entry_faults, type_faults}
 use Rattle.rule_values.proofs.Tells.{no_true, not_in_nil, Tells, tells_same, tells_both, tells_nothing, tells_when, tells_unless}

@@ -5,17 +5,17 @@ use Rattle.graphql_names.specs.Placed.{Place, Text}
 use Rattle.tree_literals.specs.ValueTree.{ValueTree, ItemTrees, EntryTrees, ListTree, ObjectTree, no_items, item_then, no_entries, entry_then}
 use Rattle.fault_data.specs.in_rule_definitions.Diagnostics.{UniqueInputValue}
 use Rattle.fault_data.specs.in_rule_definitions.Faults.{wrong}
-use Rattle.fault_data.specs.in_rule_definitions.Told.{PlacedFault}
+use Rattle.fault_data.specs.in_rule_definitions.PlacedFaults.{PlacedFault}
 
 -- the first key that has the text of this one
 abbrev pub first_key : List (Text Place) → Text Place → Option (Text Place)
 first_key before n = find (λ k. bytes_eq k.it n.it) before
 
--- a key behind others
+-- the fault of a key, given the keys before it
 abbrev pub repeated_key : List (Text Place) → Text Place → List PlacedFault
 repeated_key before n = option_map_or (λ k. wrong n.place (UniqueInputValue n.it k.place n.place) ∷ []) (first_key before n) []
 
--- a key, where the first of its name before it, if there is one, has this place
+-- the fault of a key, given the place of the first key of its name before it, if there is one
 abbrev pub key_again : Option Place → Text Place → List PlacedFault
 key_again first n = option_map_or (λ p. wrong n.place (UniqueInputValue n.it p n.place) ∷ []) first []
 
@@ -37,6 +37,6 @@ abbrev mutual
   key_faults_entries no_entries = []
   key_faults_entries (entry_then n p v es) = key_faults v ++ key_faults_entries es
 
--- an object: its own keys, and those of its values
+-- the faults of an object: those of its own keys, and those of its values
 abbrev pub key_faults_object : EntryTrees Place → List PlacedFault
 key_faults_object es = repeated_keys [] es ++ key_faults_entries es

@@ -7,7 +7,7 @@ use Rattle.fault_data.specs.in_rule_definitions.Diagnostics.{UndefinedVariable}
 use Rattle.fault_data.specs.in_rule_definitions.Faults.{wrong}
 use Rattle.fault_data.specs.in_rule_definitions.Names.{defined_name}
 use Rattle.fault_data.specs.in_rule_definitions.GivenValues.{Variables}
-use Rattle.fault_data.specs.in_rule_definitions.Told.{PlacedFault}
+use Rattle.fault_data.specs.in_rule_definitions.PlacedFaults.{PlacedFault}
 
 module _ (variables : Variables Place) where
   abbrev pub undefined_variable : Place → Text Place → List PlacedFault

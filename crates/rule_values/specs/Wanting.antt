@@ -1,4 +1,4 @@
--- Types that values are given for and variables that may stand in values, as rules read them.
+-- Types that values are given for, and variables that values may have, as rules read them.
 use Rattle.std.specs.Prelude.{ℕ, Bool, true, List, map, flat_map}
 use Rattle.std.specs.Option.{option_map_or}
 use Rattle.indexmap.specs.IndexMap.{IndexMap, get}
@@ -21,7 +21,7 @@ use Rattle.schema_components.specs.Given.{component_tree}
 use Rattle.schema_components.specs.declared.component.Component.{Component}
 use Rattle.graphql_schema.specs.in_schema_types.TypeView.{name_text}
 use Rattle.fault_data.specs.in_rule_definitions.GivenValues.{Wanted, Variables}
-use Rattle.fault_data.specs.in_rule_definitions.Told.{PlacedFault}
+use Rattle.fault_data.specs.in_rule_definitions.PlacedFaults.{PlacedFault}
 use Rattle.rule_values.specs.ValueFaults.{required_if}
 
 -- a type with the place of the reference to it
@@ -38,10 +38,10 @@ variables_of variables = map (node_tree variable_definition_tree) variables
 abbrev pub nulls_of : List (Name × Node Value) → List (List ℕ × Bool)
 nulls_of entries = map (λ e. (e.0.text, is_null_value (value_tree (content e.1)))) entries
 
--- the map has nothing under the name, or that what is given is null
+-- the map has nothing under the name, or tells that what is given is null
 abbrev pub is_not_provided : {S : Type 0} → IndexMap NameValue Bool S → NameValue → Bool
 is_not_provided nulls n = option_map_or (λ is_null. is_null) (get (same_text name_text) nulls n) true
 
--- the faults of the fields of a map, by the test which are missing
+-- the faults of the required fields in a map, given which fields are missing
 abbrev pub required_among : (NameValue → Bool) → List ℕ → Place → List (NameValue × Component InputValueDefinition) → List PlacedFault
 required_among missing n p fields = flat_map (λ (e : NameValue × Component InputValueDefinition). required_if (missing e.0) n p e.0.text (component_tree input_value_tree e.1)) fields

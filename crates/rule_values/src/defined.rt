@@ -21,7 +21,7 @@ use tree_operations::VariableDefinition;
 #[derive(Drop)]
 pub struct DefinedVariables<'a> {
     definitions: &'a [Node<VariableDefinition>],
-    /// Of each name the index of the first definition that has it. Without it definitions are looked through.
+    /// For each name the index of the first definition that has it. Without it definitions are scanned.
     numbers: Option<IndexMap<Name, usize>>,
 }
 
@@ -44,7 +44,7 @@ impl<'a> Model for DefinedVariables<'a> {
     ghost invariant = { λ v. IfSome v.numbers (λ numbers. AreNumbers defined_name numbers (variables_of v.definitions.now)) };
 }
 
-/// Of each name the index of the first of these definitions that has it.
+/// For each name the index of the first of these definitions that has it.
 fn variable_numbers(
     alloc: Global,
     definitions: &[Node<VariableDefinition>],
@@ -58,7 +58,7 @@ fn variable_numbers(
     Ok(numbers)
 }
 
-/// The first of these definitions that has that name; `numbers` has where it stands.
+/// The first of these definitions that has that name; `numbers` has its index.
 fn find_numbered<'a>(
     definitions: &'a [Node<VariableDefinition>],
     numbers: &IndexMap<Name, usize>,
@@ -73,7 +73,7 @@ fn find_numbered<'a>(
     }
 }
 
-/// The first of these definitions that has that name; they are looked through.
+/// The first of these definitions that has that name; the list is scanned.
 fn find_listed<'a>(
     definitions: &'a [Node<VariableDefinition>],
     name: &Name,
@@ -88,12 +88,12 @@ fn find_listed<'a>(
     None
 }
 
-/// So many definitions are looked through faster than they are noted.
+/// So many definitions are scanned faster than they are noted.
 const FEW: usize = 8;
 
 /// Variables from their definitions.
 impl<'a> DefinedVariables<'a> {
-    /// These, which are looked through at each use.
+    /// These definitions, scanned at each use.
     pub fn listed(definitions: &'a [Node<VariableDefinition>]) -> DefinedVariables<'a>
         ensures { result ≡ definitions.now }
     {
@@ -103,7 +103,7 @@ impl<'a> DefinedVariables<'a> {
         }
     }
 
-    /// These. Where they are more than a few, their names are noted once, and found in a map at each use.
+    /// These definitions. If they are more than a few, their names are noted once, and found in a map at each use.
     pub fn new(
         alloc: Global,
         definitions: &'a [Node<VariableDefinition>],

@@ -41,7 +41,7 @@ pub(crate) fn is_custom_scalar(found: &ExtendedType) -> bool
     found.is_scalar() && !found.is_built_in()
 }
 
-/// Whether the type is a custom scalar, or a built-in one and that one is asked for.
+/// Whether the type is a custom scalar, or a built-in scalar if `named` is true.
 fn is_scalar_so(named: bool, found: &ExtendedType) -> bool
     ensures { result ≡ is_scalar_so named (extended_type found.now) }
 {
@@ -76,7 +76,7 @@ fn takes_booleans(name: &str) -> bool
     name == "Boolean"
 }
 
-/// Whether a variable has that type inside all brackets; one that is not defined fits everywhere.
+/// Whether a variable has that inner type; one that is not defined fits everywhere.
 fn variable_fits(variables: &DefinedVariables<'_>, name: &Name, wanted: &Name) -> bool
     ensures { result ≡ variable_fits (variables_of variables.now) name.now.text wanted.now.text }
 {
@@ -88,7 +88,7 @@ fn variable_fits(variables: &DefinedVariables<'_>, name: &Name, wanted: &Name) -
     }
 }
 
-/// Whether the form of a value fits `ty`, inside all brackets of which stands `found`.
+/// Whether the form of a value fits `ty`, whose inner type is `found`.
 #[tactic(auto, using(tree_literals::proofs::Trees::value_tree_rules))]
 fn fits_form(
     ty: &Type,

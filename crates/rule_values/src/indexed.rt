@@ -148,7 +148,7 @@ impl<'a> IndexedSchema<'a> {
     }
 }
 
-/// The type of that name, of which nothing is known.
+/// The type of that name, without anything noted of its input values.
 fn plain_type<'a>(schema: &'a Schema, name: &Name) -> Option<FoundType<'a>>
     ensures { option_map extended_type result ≡ type_at (schema_tree schema.now) name.now.text }
 {

@@ -35,8 +35,8 @@ fn unique_input_value(
     tell(faults, Some(Fault { location, data }))
 }
 
-/// Adds a fault for each key that stands before among the entries.
-// It is not inlined, so that what it holds takes no stack at each level of a value.
+/// Adds a fault for each key that an earlier entry has.
+// It is not inlined, so that its locals take no stack at each level of a value.
 #[inline(never)]
 fn tell_repeated_keys(
     entries: &[(Name, Node<Value>)],

@@ -80,7 +80,7 @@ fn told_key(
     )
 }
 
-/// Of each key whether the value of its first entry is null.
+/// For each key whether the value of its first entry is null.
 fn nulls_by_key(
     alloc: Global,
     entries: &[(Name, Node<Value>)],
@@ -111,8 +111,8 @@ struct InputFields<'a> {
     required: Option<&'a [(Name, Component<InputValueDefinition>)]>,
 }
 
-/// An object that is given for an input object: the name of that type, the place of the object, and of each key whether the
-/// value of its first entry is null.
+/// An object that is given for an input object: the name of that type, the place of the object, and for each key
+/// whether the value of its first entry is null.
 #[derive(Clone, Copy)]
 struct GivenObject<'a> {
     name: &'a Name,
@@ -120,8 +120,8 @@ struct GivenObject<'a> {
     nulls: &'a IndexMap<Name, bool>,
 }
 
-/// RequiredField: an object value is valid only if each required field is given, and not as null (section 5.6.4). `field`
-/// stands under the name `field_name` in the type that `given` is given for.
+/// RequiredField: an object value is valid only if each required field is given, and not as null (section 5.6.4).
+/// `field` has the name `field_name` in the type that `given` is given for.
 fn required_field(
     given: &GivenObject<'_>,
     field_name: &Name,
@@ -180,7 +180,7 @@ pub(crate) fn tell_required_fields(
     tell_required(name, location, entries, &fields, faults)
 }
 
-/// Adds the faults of the required ones of these fields that the entries do not give.
+/// Adds the faults of the required fields among these that the entries do not give.
 fn tell_required(
     name: &Name,
     location: Option<SourceSpan>,
@@ -207,7 +207,7 @@ fn tell_required(
     tell_required_of(&given, fields, faults)
 }
 
-/// Adds the faults of the required ones of the fields that `given` does not have.
+/// Adds the faults of the required ones among the fields that `given` does not have.
 fn tell_required_of(
     given: &GivenObject<'_>,
     fields: &InputFields<'_>,
@@ -222,7 +222,7 @@ fn tell_required_of(
     }
 }
 
-/// Adds the faults of the required ones of these fields that `given` does not have.
+/// Adds the faults of the required fields among these that `given` does not have.
 #[tactic(auto, using(crate::proofs::RoomSteps::room_steps))]
 fn tell_each_listed(
     given: &GivenObject<'_>,
@@ -237,7 +237,7 @@ fn tell_each_listed(
     Ok(())
 }
 
-/// Adds the faults of the required ones of these fields that `given` does not have.
+/// Adds the faults of the required fields among these that `given` does not have.
 #[tactic(auto, using(crate::proofs::RoomSteps::room_steps))]
 fn tell_each_required(
     given: &GivenObject<'_>,

@@ -8,8 +8,8 @@ use crate::forms::{
     int_coercion_error, is_custom_scalar, undefined_enum_value, unsupported_value_type,
 };
 use crate::indexed::IndexedSchema;
-use crate::judging::Judging;
 use crate::objects::{tell_required_fields, undefined_input_value};
+use crate::rule_context::RuleContext;
 use crate::wanted::Wanted;
 use fault_data::Fault;
 use graphql_names::{Name, Node};
@@ -29,7 +29,7 @@ pub(crate) fn tell_type_faults(
 ) -> Result<(), AllocError>
     ensures { OnOk result (Tells faults.old faults.new (faults_for schema.now variables.now ty.now value.now)) }
 {
-    let judging = Judging { schema, variables };
+    let judging = RuleContext { schema, variables };
     let wanted = Wanted {
         ty: ty.content(),
         location: ty.location(),
@@ -37,8 +37,8 @@ pub(crate) fn tell_type_faults(
     tell_type(&judging, value, &wanted, faults)
 }
 
-/// Adds the faults of one value against the type that is wanted, inside all brackets of which is `found`, apart from what
-/// is inside a list or an object.
+/// Adds the faults of one value against the expected type, whose inner type is `found`, apart from what is inside a
+/// list or an object.
 // It is not inlined, so that the faults that it makes take no stack at each level of a value.
 #[inline(never)]
 #[tactic(auto, using(crate::proofs::RoomSteps::room_steps))]
@@ -62,11 +62,11 @@ fn tell_form(
     tell_required_fields(name, found, content, location, faults)
 }
 
-/// Adds the faults of a value against the type that is wanted. A type that is not there takes every value.
+/// Adds the faults of a value against the expected type. A type that is not defined takes every value.
 #[cycle(types)]
 #[tactic(auto, using(crate::proofs::RoomSteps::room_steps))]
 fn tell_type(
-    judging: &Judging<'_>,
+    judging: &RuleContext<'_>,
     value: &Node<Value>,
     wanted: &Wanted<'_>,
     faults: &mut Vec<Fault>,
@@ -86,7 +86,7 @@ fn tell_type(
 #[cycle(types)]
 #[tactic(auto, using(tree_literals::proofs::Trees::value_tree_rules))]
 fn tell_inside(
-    judging: &Judging<'_>,
+    judging: &RuleContext<'_>,
     value: &Value,
     wanted: &Wanted<'_>,
     found: &ExtendedType,
@@ -124,7 +124,7 @@ fn tell_inside(
 /// Adds the faults of the items of a list against the type of items.
 #[cycle(types)]
 fn tell_items(
-    judging: &Judging<'_>,
+    judging: &RuleContext<'_>,
     items: &[Node<Value>],
     wanted: &Wanted<'_>,
     faults: &mut Vec<Fault>,
@@ -140,7 +140,7 @@ fn tell_items(
 /// Adds the faults of the entries of an object, each against the type of its field. The first entry of each key counts.
 #[cycle(types)]
 fn tell_entries(
-    judging: &Judging<'_>,
+    judging: &RuleContext<'_>,
     entries: &[(Name, Node<Value>)],
     found: &ExtendedType,
     faults: &mut Vec<Fault>,
@@ -160,7 +160,7 @@ fn tell_entries(
 /// Adds the faults of an entry of an object against the type of the field of its key, if there is one.
 #[cycle(types)]
 fn tell_entry(
-    judging: &Judging<'_>,
+    judging: &RuleContext<'_>,
     entry: &(Name, Node<Value>),
     found: &ExtendedType,
     faults: &mut Vec<Fault>,

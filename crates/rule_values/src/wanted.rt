@@ -2,7 +2,7 @@
 use graphql_names::SourceSpan;
 use tree_literals::Type;
 
-/// The type that is wanted, and the place of the reference to it. The type of items has the place of the whole reference.
+/// The expected type, and the place of the reference to it. The type of items has the place of the whole reference.
 #[derive(Clone, Copy)]
 pub(crate) struct Wanted<'a> {
     pub(crate) ty: &'a Type,

@@ -12,10 +12,10 @@ use Rattle.rule_definitions.specs.GivenValues.{Variables, Wanted}
 use Rattle.rule_definitions.specs.Values.{UndefinedVariableIn, ValueBreaks}
 use Rattle.rule_definitions.specs.Names.{directive_name}
 use Rattle.rule_definitions.specs.Uses.{directive_taker, UniqueDirectiveAt, UndefinedDirectiveAt, UnsupportedLocationAt, GivenBreaks, UndefinedArgumentAt, RequiredArgumentAt, DisallowedVariableUsageAt, AtArgumentGiven, UsesBreak}
-use Rattle.rule_definitions.specs.Told.{PlacedFault}
-use Rattle.rule_document_definitions.specs.Told.{place_or_built_in}
-use Rattle.rule_uses.specs.Trees.{TellSamePlaces}
-use Rattle.rule_uses.proofs.ReadPlaces.{same_type_breaks}
+use Rattle.rule_definitions.specs.PlacedFaults.{PlacedFault}
+use Rattle.rule_document_definitions.specs.PlacedDocumentFaults.{place_or_built_in}
+use Rattle.rule_arguments.specs.Trees.{TellSamePlaces}
+use Rattle.rule_arguments.proofs.ReadPlaces.{same_type_breaks}
 
 module _ (s : SchemaTree Place) (variables : Variables Place) where
   alike : TellSamePlaces (place_or_built_in s) (place_at s)

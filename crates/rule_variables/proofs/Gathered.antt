@@ -1,22 +1,22 @@
 -- The names that are gathered are those of the variables that the operation uses.
 use Rattle.std.proofs.Common.{◌≡◌, ◌↔◌, ◌⊎◌, inl, inr, ℕ, List, [], ◌∷◌, length, Contains, is_some, true≢false, refl, sym, ap}
 use Rattle.graphql_names.specs.Placed.{Place}
-use Rattle.document_meaning.specs.MeantTree.{MeantOperation, MeantFragment, MeantDocument}
+use Rattle.spec_document.specs.MeantTree.{MeantOperation, MeantFragment, MeantDocument}
 use Rattle.rule_definitions.specs.Words.{AtSomeIndex}
-use Rattle.rule_definitions.specs.Told.{PlacedFault}
+use Rattle.rule_definitions.specs.PlacedFaults.{PlacedFault}
 use Rattle.rule_definitions.proofs.Lists.{not_in_nil}
 use Rattle.schema_types.specs.Addresses.{Address}
 use Rattle.rule_document_definitions.specs.Selected.{own}
 use Rattle.rule_document_definitions.specs.Reached.{AtReached, AtReachedFragment}
 use Rattle.rule_document_definitions.specs.UsedVariables.{StandsInDirectives, StandsInSelection, IsUsedIn}
 use Rattle.rule_document_definitions.specs.Variables.{UnusedVariableAt}
-use Rattle.rule_document_ground.specs.Reach.{Member, IsReach}
-use Rattle.rule_document_ground.proofs.AtReaches.{at_reached, at_reached_fragment}
+use Rattle.rule_reach.specs.Reach.{Member, IsReach}
+use Rattle.rule_reach.proofs.AtReaches.{at_reached, at_reached_fragment}
 use Rattle.rule_variables.specs.Parts.{places_with, VariablesBreakAlone}
-use Rattle.rule_document_ground.specs.UsedNames.{with_directives, with_selection}
+use Rattle.rule_reach.specs.UsedNames.{with_directives, with_selection}
 use Rattle.rule_variables.specs.UsedNames.{with_members, with_fragments, with_used}
 use Rattle.rule_variables.specs.VariableFaults.{UnusedAmong, AloneBreaks}
-use Rattle.rule_document_ground.proofs.UsedNames.{StandsHere, in_directives, in_fold, in_selection}
+use Rattle.rule_reach.proofs.UsedNames.{StandsHere, in_directives, in_fold, in_selection}
 use Rattle.rule_variables.proofs.Names.{stands_here}
 use Rattle.rule_variables.proofs.Told.{index_same}
 

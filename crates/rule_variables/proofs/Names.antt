@@ -5,11 +5,11 @@ use Rattle.std.proofs.lemmas.List.Elements.{Contains-append_right}
 use Rattle.std.proofs.lemmas.Slice.Eq.{bytes_eq-Decides}
 use Rattle.graphql_names.specs.NameValue.{NameValue}
 use Rattle.graphql_names.specs.Placed.{Place}
-use Rattle.document_meaning.specs.MeantTree.{MeantSelection, MeantField, MeantSpread, MeantInline}
+use Rattle.spec_document.specs.MeantTree.{MeantSelection, MeantField, MeantSpread, MeantInline}
 use Rattle.rule_definitions.proofs.Lists.{not_in_nil, Contains-cons, Contains-first}
 use Rattle.rule_document_definitions.specs.Selected.{Position, Standing}
 use Rattle.rule_document_definitions.specs.UsedVariables.{StandsInArguments, StandsInSelection}
-use Rattle.rule_document_ground.proofs.UsedNames.{StandsHere}
+use Rattle.rule_reach.proofs.UsedNames.{StandsHere}
 
 -- ---- a name among those of keys
 

@@ -19,11 +19,11 @@ use Rattle.rule_definitions.specs.Faults.{wrong}
 use Rattle.rule_definitions.specs.Judged.{judged}
 use Rattle.rule_definitions.specs.Names.{defined_name}
 use Rattle.rule_definitions.specs.GivenValues.{Variables, wanted_name}
-use Rattle.rule_definitions.specs.Told.{PlacedFault}
+use Rattle.rule_definitions.specs.PlacedFaults.{PlacedFault}
 use Rattle.rule_document_definitions.specs.UsedVariables.{wanted_by}
-use Rattle.rule_uses.specs.in_rule_values.Firsts.{first_told}
-use Rattle.rule_uses.proofs.in_rule_values.in_inputs.Noted.{told_found}
-use Rattle.rule_uses.proofs.in_rule_values.Looking.{inner_unplaced, type_absent, type_present}
+use Rattle.rule_arguments.specs.in_rule_values.Firsts.{first_told}
+use Rattle.rule_arguments.proofs.in_rule_values.in_inputs.Noted.{told_found}
+use Rattle.rule_arguments.proofs.in_rule_values.Looking.{inner_unplaced, type_absent, type_present}
 use Rattle.rule_definitions.proofs.Firsts.{earlier_is_found}
 use Rattle.rule_definitions.proofs.Listing.{Lists, lists_same, lists_nothing, lists_one, lists_where, lists_present, lists_unless, lists_places}
 use Rattle.rule_variables.specs.VariableFaults.{Defined, repeated_variable, variable_again, UnusedAmong, type_name, told_input_type, undefined_definition, variable_input_type, is_of_input_type, UndefinedType, NoInputType}

@@ -3,14 +3,14 @@ use Rattle.std.proofs.Common.{◌≡◌, ◌↔◌, ◌⊎◌, true, [], inl, in
 use Rattle.graphql_names.specs.Placed.{Place}
 use Rattle.tree_directives.specs.declared.directive_location.DirectiveLocation.TheVariants as location
 use Rattle.schema_types.specs.SchemaTree.{SchemaTree, is_input_kind}
-use Rattle.document_meaning.specs.MeantTree.{MeantOperation}
+use Rattle.spec_document.specs.MeantTree.{MeantOperation}
 use Rattle.rule_definitions.specs.Words.{Present, AtSomeIndex}
 use Rattle.rule_definitions.specs.Judged.{judged}
 use Rattle.rule_definitions.specs.GivenValues.{wanted_name}
 use Rattle.rule_definitions.specs.Values.{ValueBreaks}
 use Rattle.rule_definitions.specs.Uses.{UsesBreak}
-use Rattle.rule_definitions.specs.Told.{PlacedFault}
-use Rattle.rule_document_definitions.specs.Told.{places_in, place_or_built_in}
+use Rattle.rule_definitions.specs.PlacedFaults.{PlacedFault}
+use Rattle.rule_document_definitions.specs.PlacedDocumentFaults.{places_in, place_or_built_in}
 use Rattle.rule_document_definitions.specs.UsedVariables.{wanted_by}
 use Rattle.rule_document_definitions.specs.Variables.{DefaultValueBreaks, VariableDirectivesBreak}
 use Rattle.rule_variables.specs.Parts.{VariablesBreakUnder}

@@ -2,14 +2,14 @@
 ghost use Rattle.std.specs.Prelude.{◌≡◌, OnOk};
 ghost use Rattle.graphql_names.specs.Placed.{Place, node_tree};
 ghost use Rattle.document_typed_operations.specs.TypedDocument.{typed_operation_tree};
-ghost use Rattle.rule_document_ground.specs.in_typed_operations.DocumentView.{meant_by_operation};
+ghost use Rattle.rule_reach.specs.in_typed_operations.DocumentView.{meant_by_operation};
 ghost use Rattle.graphql_schema.specs.SchemaOf.{schema_tree};
-ghost use Rattle.rule_uses.specs.in_fault_data.Adds.{Adds};
-ghost use Rattle.rule_uses.specs.in_rule_values.Wanting.{variables_of};
+ghost use Rattle.rule_arguments.specs.in_fault_data.Adds.{Adds};
+ghost use Rattle.rule_arguments.specs.in_rule_values.Wanting.{variables_of};
 ghost use Rattle.schema_types.specs.Addresses.{Address};
-ghost use Rattle.document_meaning.specs.MeantTree.{MeantDocument};
-ghost use Rattle.rule_document_ground.specs.Reach.{IsReachOf};
-ghost use Rattle.rule_document_ground.specs.NotedNames.{noted_names};
+ghost use Rattle.spec_document.specs.MeantTree.{MeantDocument};
+ghost use Rattle.rule_reach.specs.Reach.{IsReachOf};
+ghost use Rattle.rule_reach.specs.NotedNames.{noted_names};
 ghost use Rattle.rule_variables.specs.Parts.{VariablesBreakAlone, VariablesBreakUnder};
 ghost use Rattle.rule_variables.specs.VariableFaults.{AloneBreaks};
 
@@ -20,14 +20,14 @@ use crate::unused::tell_unused_variables;
 use document_typed_operations::Operation;
 use graphql_names::{Name, Node};
 use indexmap::IndexSet;
-use rule_document_ground::Reach;
-use rule_uses::{Fault, IndexedSchema};
+use rule_arguments::{Fault, IndexedSchema};
+use rule_reach::Reach;
 use std::alloc::AllocError;
 use tree_operations::VariableDefinition;
 
 /// Adds the faults of the variables of an operation under a schema: UndefinedDefinition and VariableInputType of their
 /// types, the rules on values of their defaults, and the rules on uses of their directives (sections 5.6, 5.7 and 5.8.2).
-/// Where memory is refused some of them may be missing.
+/// If memory is refused, some of them may be missing.
 pub fn check_variables(
     schema: &IndexedSchema<'_>,
     operation: &Node<Operation>,
@@ -39,7 +39,7 @@ pub fn check_variables(
 }
 
 /// Adds the faults of the variables of an operation that need no schema: UniqueVariable, UniqueInputValue in their defaults,
-/// and UnusedVariable (sections 5.6.3, 5.8.1 and 5.8.4). `reach` is what the operation reaches. Where memory is refused some of
+/// and UnusedVariable (sections 5.6.3, 5.8.1 and 5.8.4). `reach` is what the operation reaches. If memory is refused, some of
 /// them may be missing.
 pub fn check_variables_alone(
     operation: &Node<Operation>,
@@ -50,7 +50,7 @@ pub fn check_variables_alone(
 {
     let own = operation.content();
     if own.variables.is_empty() {
-        // what is used is not looked for: no variable is there that may be unused
+        // no variable can be unused, so the names that are used are not gathered
         return Ok(());
     }
     let alloc = *faults.allocator();
@@ -58,7 +58,7 @@ pub fn check_variables_alone(
     check_alone(&own.variables, &used, faults)
 }
 
-/// Adds the same of these variables, where those names are used.
+/// Adds these faults of the variables, given the names that are used.
 fn check_alone(
     variables: &[Node<VariableDefinition>],
     used: &IndexSet<Name>,

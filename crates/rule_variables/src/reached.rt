@@ -1,14 +1,14 @@
 //! The names of the variables that an operation uses.
 ghost use Rattle.std.specs.Prelude.{◌≡◌, [], IfOk, OnOk};
 ghost use Rattle.document_typed_operations.specs.TypedDocument.{typed_operation_tree};
-ghost use Rattle.rule_document_ground.specs.Reach.{reached_members, reached_fragments_of};
-ghost use Rattle.rule_document_ground.specs.NotedNames.{noted_names};
+ghost use Rattle.rule_reach.specs.Reach.{reached_members, reached_fragments_of};
+ghost use Rattle.rule_reach.specs.NotedNames.{noted_names};
 ghost use Rattle.rule_variables.specs.UsedNames.{with_members, with_fragments, with_used};
 
 use document_typed_operations::Operation;
 use graphql_names::Name;
 use indexmap::IndexSet;
-use rule_document_ground::{Reach, note_in_directives, note_in_selection};
+use rule_reach::{Reach, note_in_directives, note_in_selection};
 use std::alloc::{AllocError, Global};
 
 /// Adds the names of the variables in each selection itself.

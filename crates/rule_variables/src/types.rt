@@ -1,17 +1,17 @@
-//! What a variable says under a schema: its type, its default and its directives.
+//! The rules on one variable under a schema: on its type, its default and its directives.
 ghost use Rattle.std.specs.Prelude.{◌≡◌, IfOk, OnOk};
 ghost use Rattle.graphql_names.specs.Placed.{node_tree};
 ghost use Rattle.tree_operations.specs.OperationTree.{variable_definition_tree};
 ghost use Rattle.rule_definitions.specs.Words.{AtSomeIndex};
 ghost use Rattle.graphql_schema.specs.SchemaOf.{schema_tree};
-ghost use Rattle.rule_uses.specs.in_fault_data.FaultView.{fault_of};
-ghost use Rattle.rule_uses.specs.in_fault_data.Adds.{Adds};
-ghost use Rattle.rule_uses.specs.in_rule_values.Telling.{Tells};
-ghost use Rattle.rule_uses.specs.in_rule_values.Wanting.{variables_of};
+ghost use Rattle.rule_arguments.specs.in_fault_data.FaultView.{fault_of};
+ghost use Rattle.rule_arguments.specs.in_fault_data.Adds.{Adds};
+ghost use Rattle.rule_arguments.specs.in_rule_values.Telling.{Tells};
+ghost use Rattle.rule_arguments.specs.in_rule_values.Wanting.{variables_of};
 ghost use Rattle.rule_variables.specs.VariableFaults.{undefined_definition, variable_input_type, told_input_type, is_of_input_type, DefaultBreaks, JudgedDefaultBreaks, VariableBreaks};
 
 use graphql_names::Node;
-use rule_uses::{
+use rule_arguments::{
     DefinedVariables, DiagnosticData, Fault, IndexedSchema, Schema, check_uses, check_value, tell,
 };
 use schema_types::TypeKind;
@@ -73,7 +73,7 @@ fn told_input_type(variable: &Node<VariableDefinition>, kind: TypeKind) -> Resul
     Ok(Fault { location, data })
 }
 
-/// Adds the faults of a variable's default against its type (section 5.6); a default has no variables.
+/// Adds the faults of a variable's default against its type (section 5.6); there are no variables in a default.
 fn check_default(
     schema: &IndexedSchema<'_>,
     variable: &Node<VariableDefinition>,
@@ -91,7 +91,7 @@ fn check_default(
     }
 }
 
-/// Whether the type of a variable is there, and is an input type.
+/// Whether the type of a variable is defined, and is an input type.
 fn is_of_input_type(schema: &Schema, variable: &Node<VariableDefinition>) -> bool
     ensures { result ≡ is_of_input_type (schema_tree schema.now) (node_tree variable_definition_tree variable.now) }
 {
@@ -102,8 +102,8 @@ fn is_of_input_type(schema: &Schema, variable: &Node<VariableDefinition>) -> boo
     }
 }
 
-/// Adds the same of a variable of an input type. Of another no default is judged: that its type is none, or is not there, is
-/// told already.
+/// The same, if the type of the variable is an input type. Otherwise its default is not judged: that the type is no input type,
+/// or is not defined, is told already.
 fn check_judged_default(
     schema: &IndexedSchema<'_>,
     variable: &Node<VariableDefinition>,
@@ -140,7 +140,7 @@ fn check_variable(
     )
 }
 
-/// Adds the same of each variable.
+/// Adds these faults of each variable.
 pub(crate) fn check_each_variable(
     schema: &IndexedSchema<'_>,
     variables: &[Node<VariableDefinition>],

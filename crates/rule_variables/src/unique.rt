@@ -1,19 +1,19 @@
-//! What stands twice: variables, and keys in their defaults.
+//! Duplicates: variables of one name, and equal keys in their defaults.
 ghost use Rattle.std.specs.Prelude.{[], OnOk};
 ghost use Rattle.graphql_names.specs.Placed.{node_tree};
 ghost use Rattle.tree_operations.specs.OperationTree.{variable_definition_tree};
 ghost use Rattle.schema_components.specs.Lists.{each_place};
 ghost use Rattle.rule_definitions.specs.Names.{defined_name};
 ghost use Rattle.rule_definitions.specs.Words.{AtSomeIndex};
-ghost use Rattle.rule_uses.specs.in_fault_data.Adds.{Adds};
-ghost use Rattle.rule_uses.specs.in_rule_values.Firsts.{AreFirsts};
-ghost use Rattle.rule_uses.specs.in_rule_values.Telling.{Tells};
-ghost use Rattle.rule_uses.specs.in_rule_values.Wanting.{variables_of};
+ghost use Rattle.rule_arguments.specs.in_fault_data.Adds.{Adds};
+ghost use Rattle.rule_arguments.specs.in_rule_values.Firsts.{AreFirsts};
+ghost use Rattle.rule_arguments.specs.in_rule_values.Telling.{Tells};
+ghost use Rattle.rule_arguments.specs.in_rule_values.Wanting.{variables_of};
 ghost use Rattle.rule_variables.specs.VariableFaults.{variable_again, repeated_variable, DefaultKeyBreaks};
 
 use graphql_names::{Name, Node, SourceSpan};
 use indexmap::IndexMap;
-use rule_uses::{DiagnosticData, Fault, note_first, tell, unique_input_values};
+use rule_arguments::{DiagnosticData, Fault, note_first, tell, unique_input_values};
 use std::alloc::AllocError;
 use tree_operations::VariableDefinition;
 
@@ -38,7 +38,7 @@ fn unique_variable(
     tell(faults, Some(Fault { location, data }))
 }
 
-/// Adds a fault for each variable that is defined before.
+/// Adds a fault for each variable whose name an earlier one has.
 pub(crate) fn tell_repeated_variables(
     variables: &[Node<VariableDefinition>],
     faults: &mut Vec<Fault>,
@@ -49,7 +49,7 @@ pub(crate) fn tell_repeated_variables(
     tell_variables_again(variables, &mut places, faults)
 }
 
-/// The same. `places` gets the place of the first of each name; it has none yet.
+/// The same. `places` gets the place of the first variable of each name; it is empty at first.
 fn tell_variables_again(
     variables: &[Node<VariableDefinition>],
     places: &mut IndexMap<Name, Option<SourceSpan>>,
@@ -66,8 +66,8 @@ fn tell_variables_again(
     Ok(())
 }
 
-/// UniqueInputValue: an object value is valid only if its keys differ (section 5.6.3). Of the objects in a default: adds a
-/// fault for each key that stands before.
+/// UniqueInputValue: an object value is valid only if its keys differ (section 5.6.3). For the objects in a default: adds a
+/// fault for each key that the object has already.
 fn unique_default_keys(
     variable: &Node<VariableDefinition>,
     faults: &mut Vec<Fault>,

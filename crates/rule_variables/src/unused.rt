@@ -4,14 +4,14 @@ ghost use Rattle.graphql_names.specs.Placed.{node_tree};
 ghost use Rattle.graphql_names.specs.Places.{Recomposes};
 ghost use Rattle.tree_operations.specs.OperationTree.{variable_definition_tree};
 ghost use Rattle.rule_definitions.specs.Words.{AtSomeIndex};
-ghost use Rattle.rule_uses.specs.in_fault_data.Adds.{Adds};
-ghost use Rattle.rule_uses.specs.in_rule_values.Wanting.{variables_of};
-ghost use Rattle.rule_document_ground.specs.NotedNames.{noted_names};
+ghost use Rattle.rule_arguments.specs.in_fault_data.Adds.{Adds};
+ghost use Rattle.rule_arguments.specs.in_rule_values.Wanting.{variables_of};
+ghost use Rattle.rule_reach.specs.NotedNames.{noted_names};
 ghost use Rattle.rule_variables.specs.VariableFaults.{UnusedAmong};
 
 use graphql_names::{Name, Node, SourceSpan};
 use indexmap::IndexSet;
-use rule_uses::{DiagnosticData, Fault, tell};
+use rule_arguments::{DiagnosticData, Fault, tell};
 use std::alloc::AllocError;
 use tree_operations::VariableDefinition;
 

@@ -5,7 +5,7 @@ use Rattle.graphql_names.specs.Placed.{Place}
 use Rattle.schema_built_in.specs.in_definitions.DefinitionTree.{DefinitionTree}
 use Rattle.schema_built_in.specs.in_definitions.Queries.{is_extension, definition_place}
 use Rattle.schema_components.proofs.Places.{each_place-push}
-use Rattle.schema_built_in.specs.in_fold.Listed.{Definitions, Listed, listed_after}
+use Rattle.schema_built_in.specs.in_fold.NumberedDefinition.{Definitions, NumberedDefinition, listed_after}
 use Rattle.schema_building.specs.Numbers.{extension_count, HaveNumbers}
 use Rattle.schema_building.specs.TextsView.{TextsView}
 use Rattle.schema_building.specs.TextsList.{IsListOf, AddsDefinitions, IsListRefusal}
@@ -15,7 +15,7 @@ use Rattle.schema_building.proofs.Numbering.{count_append, count_one, count_none
 
 module _ (d : DefinitionTree Place) (old new : TextsView) where
   -- what stands behind the others once d is added, and the number behind its own
-  abbrev added_here : Listed
+  abbrev added_here : NumberedDefinition
   added_here = record { definition = d; extension = if is_extension d then Some (record { number = old.next; place = definition_place d }) else None }
 
   abbrev next_number : ℕ

@@ -10,7 +10,7 @@ use Rattle.graphql_names.specs.Placed.{Place}
 use Rattle.schema_components.specs.Lists.{each_place_after, firsts, has_name, is_among}
 use Rattle.schema_components.proofs.Firsts.{is_some-firsts}
 use Rattle.schema_built_in.specs.in_schema_types.TypeParts.{TypeDefinition, type_here, type_extension_here}
-use Rattle.schema_built_in.specs.in_fold.Listed.{Definitions, type_name, types_in, type_named}
+use Rattle.schema_built_in.specs.in_fold.NumberedDefinition.{Definitions, type_name, types_in, type_named}
 use Rattle.schema_built_in.specs.in_fold.Adoption.{orphans}
 use Rattle.schema_built_in.specs.Table.{built_in_definitions}
 use Rattle.schema_fold_index.specs.Index.{IsIndexOf, parts_here, filed_kind}

@@ -6,9 +6,9 @@ use Rattle.schema_components.specs.Lists.{firsts}
 use Rattle.schema_built_in.specs.in_schema_types.TypeParts.{TypeParts}
 use Rattle.schema_built_in.specs.in_fold.Adoption.{orphans, settled, Settings}
 use Rattle.schema_built_in.specs.Table.{built_in_definitions}
-use Rattle.schema_built_in.specs.in_fold.Listed.{Definitions, Listed, numbered, definitions_of}
+use Rattle.schema_built_in.specs.in_fold.NumberedDefinition.{Definitions, NumberedDefinition, numbered, definitions_of}
 use Rattle.schema_built_in.specs.in_fold.ListedView.{listed_view}
-use Rattle.schema_built_in.specs.in_fold.declared.listed.Listed.{Listed as Rust}
+use Rattle.schema_built_in.specs.in_fold.declared.numbered_definition.NumberedDefinition.{NumberedDefinition as Rust}
 use Rattle.schema_building.proofs.Numbering.{definitions_numbered}
 use Rattle.schema_building.specs.Building.{orphan_names, IsAddRefusal}
 use Rattle.schema_building.specs.BuilderValue.{BuilderValue}
@@ -69,7 +69,7 @@ module _ (old new : Texts) (more : Definitions) (kept : Keeps old) (adds : AddsD
   kept_added = (is_its_list new (first_number old) (definitions old ++ more) added, filed kept.1)
 
 -- the list that counts
-pub list_is : (t : Texts) (s : Settings) (list : List Listed) → Keeps t → list ≡ settled_from s (texts_view t).list (orphan_kinds t.index) (map unnumbered built_in_definitions)
+pub list_is : (t : Texts) (s : Settings) (list : List NumberedDefinition) → Keeps t → list ≡ settled_from s (texts_view t).list (orphan_kinds t.index) (map unnumbered built_in_definitions)
     → list ≡ numbered (first_number t) (built_in_definitions ++ settled built_in_definitions s (definitions t))
 list_is t s list kept e =
     e ∙ ap (λ l. settled_from s l (orphan_kinds t.index) (map unnumbered built_in_definitions)) kept.0.list
@@ -97,7 +97,7 @@ lent_are ds index filed left is = ap (map (λ k. k.0)) (is ∙ waiting_are ds in
 
 -- ---- as an invariant
 
-same_list : (xs ys : List Listed) → definitions_of xs ≡ definitions_of ys → numbers_of xs ≡ numbers_of ys → xs ≡ ys
+same_list : (xs ys : List NumberedDefinition) → definitions_of xs ≡ definitions_of ys → numbers_of xs ≡ numbers_of ys → xs ≡ ys
 same_list [] [] d n = refl
 same_list [] (y ∷ ys) d n = absurd cc
 same_list (x ∷ xs) [] d n = absurd cc

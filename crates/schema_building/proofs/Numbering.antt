@@ -6,7 +6,7 @@ use Rattle.graphql_names.specs.Placed.{Place}
 use Rattle.schema_built_in.specs.in_definitions.DefinitionTree.{DefinitionTree}
 use Rattle.schema_built_in.specs.in_definitions.Queries.{is_extension, definition_place}
 use Rattle.schema_components.specs.Lists.{each_place_after}
-use Rattle.schema_built_in.specs.in_fold.Listed.{Definitions, Listed, listed_after, numbered, definitions_of}
+use Rattle.schema_built_in.specs.in_fold.NumberedDefinition.{Definitions, NumberedDefinition, listed_after, numbered, definitions_of}
 use Rattle.schema_building.specs.Numbers.{extension_count}
 use Rattle.schema_building.specs.Settling.{unnumbered}
 
@@ -35,7 +35,7 @@ pub count_none : (d : DefinitionTree Place) → is_extension d ≡ false → ext
 count_none d h = ap (λ b. length (cond b (d ∷ []) [])) h
 
 -- numbers of definitions behind others
-abbrev pub numbered_after : ℕ → Definitions → Definitions → List Listed
+abbrev pub numbered_after : ℕ → Definitions → Definitions → List NumberedDefinition
 numbered_after first = each_place_after (λ b d. listed_after first b d ∷ [])
 
 pub after_append : (first : ℕ) (before xs ys : Definitions) → numbered_after first before (xs ++ ys) ≡ numbered_after first before xs ++ numbered_after first (before ++ xs) ys
@@ -48,7 +48,7 @@ after_append first before (x ∷ xs) ys =
 same_more : (b c : Definitions) (d : DefinitionTree Place) → extension_count b ≡ extension_count c → extension_count (b ++ d ∷ []) ≡ extension_count (c ++ d ∷ [])
 same_more b c d h = count_append b (d ∷ []) ∙ ap (λ n. n + extension_count (d ∷ [])) h ∙ sym (count_append c (d ∷ []))
 
-abbrev listed_at : ℕ → DefinitionTree Place → Listed
+abbrev listed_at : ℕ → DefinitionTree Place → NumberedDefinition
 listed_at n d = record { definition = d; extension = if is_extension d then Some (record { number = n; place = definition_place d }) else None }
 
 pub after_same : (first : ℕ) (b c ds : Definitions) → extension_count b ≡ extension_count c → numbered_after first b ds ≡ numbered_after first c ds

@@ -8,7 +8,7 @@ use Rattle.schema_built_in.specs.in_definitions.DefinitionTree.{DefinitionTree}
 use Rattle.schema_built_in.specs.in_schema_types.SchemaTree.{same_kind}
 use Rattle.schema_built_in.specs.in_schema_types.TypeParts.{TypeDefinition, type_here}
 use Rattle.schema_built_in.specs.in_schema_types.declared.type_kind.TypeKind.TheVariants.{Object}
-use Rattle.schema_built_in.specs.in_fold.Listed.{Definitions, type_name, types_in}
+use Rattle.schema_built_in.specs.in_fold.NumberedDefinition.{Definitions, type_name, types_in}
 use Rattle.schema_built_in.specs.in_fold.SchemaFold.{is_object_in}
 use Rattle.schema_built_in.specs.Table.{built_in_definitions}
 

@@ -14,7 +14,7 @@ use Rattle.schema_components.specs.Lists.{firsts, has_name}
 use Rattle.schema_built_in.specs.in_schema_types.TypeParts.{TypeParts, TypeDefinition, type_here, type_extension_here}
 use Rattle.schema_built_in.specs.in_schema_types.declared.type_kind.TypeKind.{TypeKind}
 use Rattle.schema_built_in.specs.in_schema_types.declared.type_kind.TypeKind.TheVariants as kind
-use Rattle.schema_built_in.specs.in_fold.Listed.{Definitions, Listed, numbered, type_name, types_in, type_named, definitions_of}
+use Rattle.schema_built_in.specs.in_fold.NumberedDefinition.{Definitions, NumberedDefinition, numbered, type_name, types_in, type_named, definitions_of}
 use Rattle.schema_built_in.specs.in_fold.SchemaFold.{schema_extension_here, schema_is_defined}
 use Rattle.schema_built_in.specs.Table.{built_in_definitions}
 use Rattle.schema_built_in.specs.in_fold.Adoption.{Settings, settled, is_redefinition, without_redefinitions, orphans, empty_type, empty_schema, has_orphan_schema, with_types, with_schema}
@@ -232,7 +232,7 @@ adopted_behind true ds =
     ap (take (length ds)) (append_assoc ds types schema) ∙ take_at ds (types ++ schema) (length ds) refl
 
 -- where none is passed over, the texts are the first of what stands behind what is built in
-pub texts_first : (s : Settings) → s.ignores ≡ false → (first built_in : ℕ) (ds : Definitions) (list : List Listed) → list ≡ numbered first (built_in_definitions ++ settled built_in_definitions s ds)
+pub texts_first : (s : Settings) → s.ignores ≡ false → (first built_in : ℕ) (ds : Definitions) (list : List NumberedDefinition) → list ≡ numbered first (built_in_definitions ++ settled built_in_definitions s ds)
     → built_in ≡ length built_in_definitions → take (length ds) (definitions_of (drop built_in list)) ≡ ds
 texts_first s none first built_in ds list is many =
     let behind = settled built_in_definitions s ds in
@@ -243,7 +243,7 @@ texts_first s none first built_in ds list is many =
 
 -- ---- its length
 
-module _ (texts : List Listed) (waiting : List NamedKind) (list : List Listed) where
+module _ (texts : List NumberedDefinition) (waiting : List NamedKind) (list : List NumberedDefinition) where
   longer_by : (adopts ignores : Bool) → length list ≤ length (settled_from (record { adopts = adopts; ignores = ignores }) texts waiting list)
   longer_by false ignores = let a = length-append list (filter (is_kept ignores) texts) in omega (arith, a)
   longer_by true ignores =

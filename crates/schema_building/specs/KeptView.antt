@@ -2,7 +2,7 @@
 use Rattle.std.specs.Prelude.{◌≡◌, ℕ, ◌+◌, ◌-◌, Bool, false, List, map, Option}
 use Rattle.graphql_names.specs.Placed.{Place}
 use Rattle.schema_components.specs.Given.{ExtensionTree}
-use Rattle.schema_built_in.specs.in_fold.Listed.{Definitions, Listed, numbered, definitions_of}
+use Rattle.schema_built_in.specs.in_fold.NumberedDefinition.{Definitions, NumberedDefinition, numbered, definitions_of}
 use Rattle.schema_fold_index.specs.Index.{IsIndexOf}
 use Rattle.schema_building.specs.Numbers.{extension_count, HaveNumbers}
 use Rattle.schema_building.specs.TextsView.{texts_view}
@@ -15,18 +15,18 @@ definitions t = definitions_of (texts_view t).list
 abbrev pub first_number : Texts → ℕ
 first_number t = t.extensions - extension_count (definitions t)
 
-abbrev pub numbers_of : List Listed → List (Option (ExtensionTree Place))
+abbrev pub numbers_of : List NumberedDefinition → List (Option (ExtensionTree Place))
 numbers_of list = map (λ l. l.extension) list
 
--- the extensions have their numbers, and the next number is the one behind theirs
+-- the extensions are numbered from `first`, there are numbers for all, and the next number is the one after theirs
 abbrev pub AreNumbered : ℕ → Definitions → Texts → Type 0
 AreNumbered first ds t = (numbers_of (texts_view t).list ≡ numbers_of (numbered first ds)) × (t.extensions ≡ first + extension_count ds) × HaveNumbers first ds
 
--- so it is where the builder has not failed: it has the definitions and extensions that were added, and of types their
--- positions by name and kind
+-- if the builder has not failed, its extensions are numbered, and its index has the positions of the definitions and
+-- extensions of types by name
 abbrev pub IsKept : Texts → Bool → Type 0
 IsKept texts failed = failed ≡ false → AreNumbered (first_number texts) (definitions texts) texts × IsIndexOf (definitions texts) texts.index
 
--- the index stays that of the list
+-- if the index was that of the definitions, it still is
 abbrev pub KeepsIndex : Texts → Texts → Type 0
 KeepsIndex old new = IsIndexOf (definitions old) old.index → IsIndexOf (definitions new) new.index

@@ -4,7 +4,7 @@ use Rattle.std.specs.List.{flat_map}
 use Rattle.graphql_names.specs.Placed.{Place}
 use Rattle.schema_components.specs.Lists.{firsts}
 use Rattle.schema_built_in.specs.in_schema_types.TypeParts.{TypeParts, type_extension_here}
-use Rattle.schema_built_in.specs.in_fold.Listed.{Definitions, types_in}
+use Rattle.schema_built_in.specs.in_fold.NumberedDefinition.{Definitions, types_in}
 use Rattle.schema_fold_index.specs.Index.{NamedKind}
 
 abbrev pub named_kind : TypeParts Place → NamedKind
@@ -13,7 +13,7 @@ named_kind p = (p.name, p.kind)
 abbrev pub parts_key : TypeParts Place → List ℕ
 parts_key p = p.name.it
 
--- the first of each name
+-- the name and kind of the first type of each name
 abbrev pub first_kinds : List (TypeParts Place) → List NamedKind
 first_kinds ps = map named_kind (firsts parts_key ps)
 

@@ -1,4 +1,4 @@
--- What is left of the types that are extended and not defined.
+-- The types that are extended and not defined, also those left in an iterator.
 use Rattle.std.specs.Prelude.{ℕ, Bool, not, ◌&&◌, List, map, is_some}
 use Rattle.std.specs.Borrow.{Bor}
 use Rattle.std.specs.List.{filter}
@@ -7,24 +7,24 @@ use Rattle.std.specs.Str.{bytes_eq}
 use Rattle.graphql_names.specs.NameValue.{NameValue}
 use Rattle.graphql_names.specs.Placed.{Place, Text, name_tree}
 use Rattle.schema_built_in.specs.in_schema_types.declared.type_kind.TypeKind.{TypeKind}
-use Rattle.schema_built_in.specs.in_fold.Listed.{type_named}
+use Rattle.schema_built_in.specs.in_fold.NumberedDefinition.{type_named}
 use Rattle.schema_built_in.specs.Table.{built_in_definitions}
 use Rattle.schema_fold_index.specs.Index.{NamedKind, FiledEntries, filed_kind}
 use Rattle.schema_fold_index.specs.declared.index.Index.{Index}
 use Rattle.schema_building.specs.declared.waiting.OrphanExtensionTypes.{OrphanExtensionTypes}
 
--- no type of that name is defined, or built in
+-- whether no type of that name is defined, and none is built in
 abbrev pub is_orphan_in : FiledEntries → List ℕ → Bool
 is_orphan_in defined n = not (is_some (lookup (λ k. bytes_eq n k.text) defined)) && not (is_some (type_named n built_in_definitions))
 
--- the names and kinds of which that is so
+-- those of these names and kinds whose type is neither defined nor built in
 abbrev pub orphans_of : FiledEntries → List NamedKind → List NamedKind
 orphans_of defined ks = filter (λ k. is_orphan_in defined k.0.it) ks
 
 abbrev pub orphan_kinds : Index → List NamedKind
 orphan_kinds index = orphans_of index.defined.entries (map filed_kind index.extended.entries)
 
--- those that are left
+-- the names and kinds that an iterator has still to yield
 abbrev pub left_kinds : OrphanExtensionTypes → List NamedKind
 left_kinds w = orphans_of w.defined.now.entries (map filed_kind w.extended)
 

@@ -1,9 +1,9 @@
-//! What is asked of a schema builder's state.
+//! Calls of a schema builder's state.
 ghost use Rattle.std.specs.Prelude.{◌≡◌, ◌≤◌, ◌++◌, [], true, false, drop, length, map, IfOk, IfErr, OnOk};
 ghost use Rattle.schema_built_in.specs.in_definitions.DefinitionTree.{document_tree};
 ghost use Rattle.schema_built_in.specs.in_definitions.Sources.{sources_of};
 ghost use Rattle.schema_built_in.specs.Table.{built_in_definitions};
-ghost use Rattle.schema_built_in.specs.in_fold.Listed.{numbered, definitions_of};
+ghost use Rattle.schema_built_in.specs.in_fold.NumberedDefinition.{numbered, definitions_of};
 ghost use Rattle.schema_built_in.specs.in_fold.ListedView.{listed_view};
 ghost use Rattle.schema_fold_index.specs.Index.{IsIndexOf};
 ghost use Rattle.schema_building.specs.Building.{plain_settings, with_document, counted, lent_names, IsAddRefusal, IsBuildRefusal};
@@ -29,14 +29,14 @@ use schema_fold_index::Index;
 use std::alloc::Global;
 
 impl Building {
-    /// A builder of no definitions, which counts extensions from 1. It takes no memory.
+    /// A builder without definitions, which counts extensions from 1. It takes no memory.
     pub fn new(alloc: Global) -> Building
         ensures { builder_view result ≡ record { first = 1; texts = []; sources = []; settings = plain_settings; failed = false } }
     {
         Building::with_extensions(alloc, Extensions::new())
     }
 
-    /// A builder of no definitions, which takes the numbers of extensions from `extensions`. It takes no memory.
+    /// A builder without definitions, which takes the numbers of extensions from `extensions`. It takes no memory.
     pub fn with_extensions(alloc: Global, extensions: Extensions) -> Building
         ensures { builder_view result ≡ record { first = extensions; texts = []; sources = []; settings = plain_settings; failed = false } }
     {
@@ -56,7 +56,7 @@ impl Building {
         }
     }
 
-    /// Lets it adopt extensions of types and of the schema that are not defined.
+    /// Makes it adopt extensions of types that are not defined, and of a schema that is not.
     pub fn adopt_orphan_extensions(self) -> Building
         ensures { builder_view result ≡ record (builder_view self) { settings = record (builder_view self).settings { adopts = true } } }
     {
@@ -65,7 +65,7 @@ impl Building {
         building
     }
 
-    /// Lets it pass over definitions of built-in types.
+    /// Makes it ignore definitions of built-in types.
     pub fn ignore_builtin_redefinitions(self) -> Building
         ensures { builder_view result ≡ record (builder_view self) { settings = record (builder_view self).settings { ignores = true } } }
     {
@@ -76,7 +76,7 @@ impl Building {
 
     /// Adds the definitions and the sources of a document after the others.
     ///
-    /// Where memory or numbers run out it answers so, and from then on [`BuilderRefusal::Failed`].
+    /// If memory or numbers run out, the answer says so, and from then on it is [`BuilderRefusal::Failed`].
     pub fn add_ast(&mut self, document: &Document) -> Result<(), BuilderRefusal>
         ensures running { OnOk result ((builder_view self.old).failed ≡ false) }
         ensures added { OnOk result (builder_view self.new ≡ with_document (document_tree document.now) (sources_of document.now) (builder_view self.old)) }
@@ -89,7 +89,7 @@ impl Building {
         match add_document(self.alloc, &mut self.texts, &mut self.sources, document) {
             Ok(()) => Ok(()),
             Err(refusal) => {
-                // The list may now end amid a document, so nothing is added or built any more.
+                // The list may now end in the middle of a document, so nothing is added or built any more.
                 self.failed = true;
                 Err(refusal)
             }
@@ -107,7 +107,7 @@ impl Building {
         OrphanExtensionTypes::of(&self.texts.index)
     }
 
-    /// Gives up the list of definitions that counts, after what is built in, with its index, and the sources.
+    /// Consumes the builder: the list of definitions that counts, after what is built in, with its index, and the sources.
     pub fn settle(self) -> Result<SettledList, BuilderRefusal>
         ensures running { OnOk result ((builder_view self).failed ≡ false) }
         ensures list { IfOk result (λ s. map listed_view s.list.items ≡ numbered (builder_view self).first (built_in_definitions ++ counted (builder_view self))) }

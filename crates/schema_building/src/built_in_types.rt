@@ -2,14 +2,14 @@
 ghost use Rattle.std.specs.Prelude.{◌≡◌, map, is_some};
 ghost use Rattle.schema_built_in.specs.in_definitions.DefinitionTree.{definition_tree};
 ghost use Rattle.schema_components.specs.Lists.{is_among};
-ghost use Rattle.schema_built_in.specs.in_fold.Listed.{type_named};
+ghost use Rattle.schema_built_in.specs.in_fold.NumberedDefinition.{type_named};
 ghost use Rattle.schema_built_in.specs.in_fold.Adoption.{is_redefinition};
 ghost use Rattle.schema_built_in.specs.Table.{built_in_definitions};
 
 use schema_built_in::{Definition, type_definition};
 
 /// Whether a type of that name is built in: a scalar (section 3.5) or a type of introspection (section 4.2).
-// By names alone, as this takes no memory: the definitions of `schema_built_in` would have to be made first.
+// By name only, which takes no memory: the definitions of `schema_built_in` would have to be made first.
 pub(crate) fn is_built_in_type(name: &str) -> bool
     ensures { result ≡ is_some (type_named name.now built_in_definitions) }
 {
@@ -45,7 +45,7 @@ fn is_among(name: &str, names: &[&str]) -> bool
     false
 }
 
-/// Whether it defines a type of which the name is built in.
+/// Whether it defines a type with the name of a built-in type.
 pub(crate) fn is_redefinition(definition: &Definition) -> bool
     ensures { result ≡ is_redefinition built_in_definitions (definition_tree definition.now) }
 {

@@ -2,15 +2,15 @@
 ghost use Rattle.std.specs.Prelude.{◌≡◌, map, is_some};
 ghost use Rattle.std.specs.List.{list_any};
 ghost use Rattle.schema_built_in.specs.in_definitions.DefinitionTree.{definition_tree};
-ghost use Rattle.schema_built_in.specs.in_fold.Listed.{definitions_of};
+ghost use Rattle.schema_built_in.specs.in_fold.NumberedDefinition.{definitions_of};
 ghost use Rattle.schema_built_in.specs.in_fold.SchemaFold.{schema_here, schema_extension_here, schema_definition_in, is_object_in, schema_is_defined};
 ghost use Rattle.schema_built_in.specs.in_fold.ListedView.{listed_view};
 
-use schema_built_in::{Definition, Listed, TypeKind, type_definition};
+use schema_built_in::{Definition, NumberedDefinition, TypeKind, type_definition};
 use tree_operations::OperationType;
 
 /// Whether the schema is extended.
-pub(crate) fn has_schema_extension(list: &[Listed]) -> bool
+pub(crate) fn has_schema_extension(list: &[NumberedDefinition]) -> bool
     ensures { result ≡ list_any (λ d. is_some (schema_extension_here d)) (definitions_of (map listed_view list.now)) }
 {
     for listed in list {
@@ -22,7 +22,7 @@ pub(crate) fn has_schema_extension(list: &[Listed]) -> bool
 }
 
 /// Whether the schema is defined: there is a schema definition, or some implicit root (section 3.3.1).
-pub(crate) fn schema_is_defined(list: &[Listed]) -> bool
+pub(crate) fn schema_is_defined(list: &[NumberedDefinition]) -> bool
     ensures { result ≡ schema_is_defined (definitions_of (map listed_view list.now)) }
 {
     has_schema_definition(list)
@@ -32,7 +32,7 @@ pub(crate) fn schema_is_defined(list: &[Listed]) -> bool
 }
 
 /// Whether there is a schema definition.
-fn has_schema_definition(list: &[Listed]) -> bool
+fn has_schema_definition(list: &[NumberedDefinition]) -> bool
     ensures { result ≡ is_some (schema_definition_in (definitions_of (map listed_view list.now))) }
 {
     for listed in list {
@@ -43,9 +43,9 @@ fn has_schema_definition(list: &[Listed]) -> bool
     false
 }
 
-/// Whether an object of that name is defined: a type is given by the first definition of its name.
+/// Whether the type of that name is an object: a type is given by the first definition of its name.
 #[tactic(auto, using(crate::proofs::Schemas::object_none, crate::proofs::Schemas::object_here, crate::proofs::Schemas::object_other))]
-fn is_object(list: &[Listed], name: &str) -> bool
+fn is_object(list: &[NumberedDefinition], name: &str) -> bool
     ensures { result ≡ is_object_in (definitions_of (map listed_view list.now)) name.now }
 {
     for listed in list {

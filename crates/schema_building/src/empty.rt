@@ -5,7 +5,7 @@ ghost use Rattle.schema_building.specs.Settling.{unnumbered, empty_of};
 ghost use Rattle.schema_building.specs.ListView.{Lists, ListsUnplaced};
 
 use graphql_names::{Name, Node};
-use schema_built_in::{Definition, Listed, TypeKind};
+use schema_built_in::{Definition, NumberedDefinition, TypeKind};
 use std::alloc::{AllocError, Global};
 use tree_composite_types::{InterfaceTypeDefinition, ObjectTypeDefinition, UnionTypeDefinition};
 use tree_directives::DirectiveList;
@@ -16,7 +16,7 @@ pub(crate) fn push_empty_type(
     alloc: Global,
     kind: TypeKind,
     name: Name,
-    list: &mut Vec<Listed>,
+    list: &mut Vec<NumberedDefinition>,
 ) -> Result<(), AllocError>
     ensures { OnOk result (Lists list.old list.new (unnumbered (empty_of (name_tree name, kind)) ∷ [])) }
 {
@@ -85,19 +85,19 @@ pub(crate) fn push_empty_type(
     }
 }
 
-/// Adds a definition of this content and no place, which is no extension, after the others of a list.
-// Over any content, so that the node and the push are proved once for all kinds.
+/// Adds a definition with this content and without a place, which is not an extension, after the others of a list.
+// For any content, so that the node and the push are proved once for all kinds.
 pub(crate) fn push_unplaced<T: Drop>(
     alloc: Global,
     value: T,
-    list: &mut Vec<Listed>,
+    list: &mut Vec<NumberedDefinition>,
 ) -> Result<(), AllocError>
 where
     Definition: From<Node<T>>,
     ensures { OnOk result (ListsUnplaced ⟦<Definition as From<Node<T>>>⟧.from_gives value list.old list.new) }
 {
     let node = Node::new(alloc, value)?;
-    list.push(Listed {
+    list.push(NumberedDefinition {
         definition: Definition::from(node),
         extension: None,
     })?;

@@ -1,8 +1,8 @@
 //! The state of a schema builder: the list of all definitions that were added, each extension with its number, and what
 //! the settings make of it.
 //!
-//! For the layer above: contracts see a builder as a record (`specs/BuilderValue.antt`); what it answers is stated in
-//! `specs/Building.antt` over the definitions of the fold (`schema_fold`). It hands out the list of definitions that
+//! For the layer above: contracts see a builder as a record (`specs/BuilderValue.antt`); its results are stated in
+//! `specs/Building.antt` by the definitions of the fold (`schema_fold`). It returns the list of definitions that
 //! counts, which `schema_fold_lists` folds.
 //!
 //! Begin with `state.rt` and `building.rt`.

@@ -2,15 +2,19 @@
 
 use graphql_names::Spent;
 use std::alloc::AllocError;
+use thiserror::Error;
 
 /// Why a schema builder refuses.
-#[derive(Clone, Copy, Debug, PartialEq, Eq)]
+#[derive(Clone, Copy, Debug, PartialEq, Eq, Error)]
 pub enum BuilderRefusal {
     /// Memory ran out.
+    #[error("out of memory")]
     Memory,
     /// There are no numbers for the extensions.
+    #[error("no number is left for an extension")]
     Spent,
     /// Memory or numbers ran out at an earlier call.
+    #[error("out of memory or numbers at an earlier call")]
     Failed,
 }
 

@@ -3,7 +3,7 @@ ghost use Rattle.std.specs.Prelude.{◌≡◌, ◌≤◌, [], false, length, map
 ghost use Rattle.std.specs.List.{filter};
 ghost use Rattle.schema_built_in.specs.in_definitions.DefinitionTree.{definition_tree};
 ghost use Rattle.schema_built_in.specs.Table.{built_in_definitions};
-ghost use Rattle.schema_built_in.specs.in_fold.Listed.{definitions_of};
+ghost use Rattle.schema_built_in.specs.in_fold.NumberedDefinition.{definitions_of};
 ghost use Rattle.schema_built_in.specs.in_fold.ListedView.{listed_view};
 ghost use Rattle.schema_fold_index.specs.Index.{IsIndexOf};
 ghost use Rattle.schema_building.specs.Settling.{unnumbered, is_kept};
@@ -12,7 +12,7 @@ ghost use Rattle.schema_building.specs.ListView.{listed_in, settled_list, Lists}
 use crate::adopt::{adopt_schema, adopt_types};
 use crate::built_in_types::is_redefinition;
 use crate::texts::{Texts, push_shared};
-use schema_built_in::{Definition, Listed, built_in_definitions};
+use schema_built_in::{Definition, NumberedDefinition, built_in_definitions};
 use schema_fold_index::Index;
 use std::alloc::{AllocError, Global};
 
@@ -23,13 +23,13 @@ pub(crate) struct Settings {
     pub(crate) ignores: bool,
 }
 
-/// Puts the definitions that count into an empty list, what is built in before the texts, and tells how many of the
+/// Puts the definitions that count into an empty list, what is built in before the texts, and returns how many of the
 /// first are built in.
 pub(crate) fn settle(
     alloc: Global,
     settings: Settings,
     texts: &Texts,
-    list: &mut Vec<Listed>,
+    list: &mut Vec<NumberedDefinition>,
 ) -> Result<usize, AllocError>
     requires { list.old.items ≡ [] }
     ensures settles { OnOk result (listed_in list.new ≡ settled_list settings texts.now) }
@@ -41,24 +41,24 @@ pub(crate) fn settle(
     keep_texts(settings.ignores, &texts.list, list)?;
     if settings.adopts {
         adopt_types(alloc, &texts.index, list)?;
-        // After the types: an adopted object named `Query` is a root, and then the schema is defined.
+        // This comes after the types: an adopted object named `Query` is a root, and then the schema is defined.
         adopt_schema(alloc, list)?;
     }
     Ok(built_in)
 }
 
-/// The index of the texts of a settled list: that of those added, with what is adopted filed after them. Where
-/// redefinitions were passed over, the list is filed again.
+/// The index of the texts of a settled list: the index of the texts that were added, with what is adopted filed after
+/// them. If redefinitions are ignored, the list is filed again.
 pub(crate) fn settled_index(
     alloc: Global,
     ignores: bool,
     texts: Texts,
-    settled: &[Listed],
+    settled: &[NumberedDefinition],
 ) -> Result<Index, AllocError>
     requires { ignores ≡ false → IsIndexOf (take (length texts.list.items) (definitions_of (map listed_view settled.now))) texts.index }
     ensures { IfOk result (λ index. IsIndexOf (definitions_of (map listed_view settled.now)) index) }
 {
-    // What was passed over has moved the positions of all that came after it.
+    // Each ignored redefinition has moved the positions of all that came after it.
     if ignores {
         return Index::of(alloc, settled);
     }
@@ -71,8 +71,11 @@ pub(crate) fn settled_index(
     Ok(index)
 }
 
-/// Adds definitions that are no extensions after the others of the list.
-fn list_all(definitions: &[Definition], list: &mut Vec<Listed>) -> Result<(), AllocError>
+/// Adds definitions that are not extensions after the others of the list.
+fn list_all(
+    definitions: &[Definition],
+    list: &mut Vec<NumberedDefinition>,
+) -> Result<(), AllocError>
     ensures { OnOk result (Lists list.old list.new (map unnumbered (map definition_tree definitions.now))) }
 {
     for definition in definitions {
@@ -81,9 +84,13 @@ fn list_all(definitions: &[Definition], list: &mut Vec<Listed>) -> Result<(), Al
     Ok(())
 }
 
-/// Adds the definitions of the texts after the others of the list, shared. Redefinitions are passed over, where
-/// they are ignored.
-fn keep_texts(ignores: bool, texts: &[Listed], list: &mut Vec<Listed>) -> Result<(), AllocError>
+/// Adds the definitions of the texts after the others of the list, shared. If `ignores` is true, redefinitions are
+/// left out.
+fn keep_texts(
+    ignores: bool,
+    texts: &[NumberedDefinition],
+    list: &mut Vec<NumberedDefinition>,
+) -> Result<(), AllocError>
     ensures { OnOk result (Lists list.old list.new (filter (is_kept ignores) (map listed_view texts.now))) }
 {
     for listed in texts {

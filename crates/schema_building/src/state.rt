@@ -6,14 +6,14 @@ use crate::settle::Settings;
 use crate::texts::Texts;
 use graphql_names::FileId;
 use indexmap::IndexMap;
-use schema_built_in::{Listed, SourceFile};
+use schema_built_in::{NumberedDefinition, SourceFile};
 use schema_fold_index::Index;
 use std::alloc::Global;
 
 /// The state of a schema builder: the definitions and extensions that were added to it, with their numbers and their
 /// positions, filed by name and kind. Nothing is folded before it is built.
 ///
-/// Contracts see it by `builder_view` alone.
+/// Contracts see it only as `builder_view`.
 pub struct Building {
     pub(crate) alloc: Global,
     pub(crate) settings: Settings,
@@ -37,7 +37,7 @@ impl Drop for Building {
 }
 
 impl Building {
-    /// Gives up the texts and their sources.
+    /// Consumes the builder: its texts and their sources.
     pub(crate) fn into_parts(self) -> (Texts, IndexMap<FileId, SourceFile>)
         ensures texts { result.0 ≡ self.texts }
         ensures sources { result.1 ≡ self.sources }
@@ -58,9 +58,9 @@ impl Building {
 #[derive(Drop)]
 pub struct SettledList {
     pub sources: IndexMap<FileId, SourceFile>,
-    pub list: Vec<Listed>,
-    /// How many definitions of the list are built in: they are its first.
+    pub list: Vec<NumberedDefinition>,
+    /// How many definitions of the list are built in: they come first.
     pub built_in: usize,
-    /// The index of the others.
+    /// The index of the other definitions.
     pub index: Index,
 }

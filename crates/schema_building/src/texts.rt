@@ -10,7 +10,7 @@ ghost use Rattle.schema_building.specs.TextsList.{AddsDefinitions, IsListRefusal
 ghost use Rattle.schema_building.specs.ListView.{Lists};
 
 use crate::refusal::BuilderRefusal;
-use schema_built_in::{Definition, Listed};
+use schema_built_in::{Definition, NumberedDefinition};
 use schema_components::{ExtensionId, Extensions};
 use schema_fold_index::Index;
 use std::alloc::{AllocError, Global};
@@ -20,7 +20,7 @@ use std::alloc::{AllocError, Global};
 #[derive(Drop)]
 pub(crate) struct Texts {
     pub(crate) extensions: Extensions,
-    pub(crate) list: Vec<Listed>,
+    pub(crate) list: Vec<NumberedDefinition>,
     pub(crate) index: Index,
 }
 
@@ -59,14 +59,14 @@ impl Texts {
 /// Adds a definition, shared, after the others of a list.
 // The copy and the push, each with its `?`, are here once for all callers.
 pub(crate) fn push_shared(
-    list: &mut Vec<Listed>,
+    list: &mut Vec<NumberedDefinition>,
     definition: &Definition,
     extension: Option<ExtensionId>,
 ) -> Result<(), AllocError>
     ensures { OnOk result (Lists list.old list.new (record { definition = definition_tree definition.now; extension = option_map extension_tree extension } ∷ [])) }
 {
     let definition = definition.clone()?;
-    list.push(Listed {
+    list.push(NumberedDefinition {
         definition,
         extension,
     })?;

@@ -8,17 +8,17 @@ use graphql_names::Name;
 use indexmap::IndexMap;
 use indexmap::map::Slice;
 use schema_built_in::TypeKind;
-use schema_fold_index::{Filed, Index};
+use schema_fold_index::{Index, Positions};
 
 /// Lends the names of the types that are extended and not defined, in the order of their first extensions.
 #[derive(Drop)]
 pub struct OrphanExtensionTypes<'a> {
-    extended: Slice<'a, Name, Filed>,
-    defined: &'a IndexMap<Name, Filed>,
+    extended: Slice<'a, Name, Positions>,
+    defined: &'a IndexMap<Name, Positions>,
 }
 
 impl<'a> OrphanExtensionTypes<'a> {
-    /// All of them.
+    /// All such types.
     pub(crate) fn of(index: &'a Index) -> OrphanExtensionTypes<'a>
         ensures { left_kinds result ≡ orphan_kinds index.now }
     {
@@ -28,7 +28,7 @@ impl<'a> OrphanExtensionTypes<'a> {
         }
     }
 
-    /// None of them.
+    /// No types.
     pub(crate) fn none(index: &'a Index) -> OrphanExtensionTypes<'a>
         ensures { left_kinds result ≡ [] }
     {
@@ -38,7 +38,7 @@ impl<'a> OrphanExtensionTypes<'a> {
         }
     }
 
-    /// The next one, with the kind of its first extension.
+    /// The next type, with the kind of its first extension.
     pub(crate) fn next_orphan(&mut self) -> Option<(&'a Name, TypeKind)>
         ensures { YieldsFirstBy lent_kind left_kinds self.old result self.new }
     {

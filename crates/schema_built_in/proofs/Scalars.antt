@@ -7,7 +7,7 @@ use Rattle.graphql_names.specs.Placed.{Place}
 use Rattle.schema_fold.specs.in_schema_types.SchemaTree.{same_kind}
 use Rattle.schema_fold.specs.in_schema_types.TypeParts.{TypeDefinition}
 use Rattle.schema_fold.specs.in_schema_types.declared.type_kind.TypeKind.TheVariants as kind
-use Rattle.schema_fold.specs.Listed.{type_name, types_in}
+use Rattle.schema_fold.specs.NumberedDefinition.{type_name, types_in}
 use Rattle.schema_fold.specs.BuiltIn.{built_in_scalars, introspection_types}
 use Rattle.schema_fold.specs.BuildErrors.{is_built_in_scalar}
 use Rattle.schema_built_in.specs.Table.{built_in_definitions}

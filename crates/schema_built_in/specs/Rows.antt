@@ -1,4 +1,4 @@
--- Private: leads to `built_in_definitions`. What the rows of the table say.
+-- Private: leads to `built_in_definitions`. The definitions that the rows of the table give.
 use Rattle.std.specs.Prelude.{ℕ, Bool, false, List, ◌&&◌, map, Option, None, Some}
 use Rattle.std.specs.List.{list_all}
 use Rattle.std.specs.Str.{bytes_eq}
@@ -46,7 +46,7 @@ abbrev pub is_scalar_named : List ℕ → Row → Bool
 is_scalar_named name (row.Scalar n) = bytes_eq name n.now
 is_scalar_named name _ = false
 
--- ---- all names are Name tokens
+-- ---- whether all names are Name tokens
 
 abbrev pub has_type_name : TypeRow → Bool
 has_type_name (type_row.Nullable n) = is_name n.now

@@ -21,7 +21,7 @@ use tree_directives::{
 };
 use tree_input_types::{EnumTypeDefinition, ScalarTypeDefinition};
 
-/// A directive of these parts.
+/// A directive with these parts.
 fn directive_with(
     alloc: Global,
     name: &'static str,

@@ -1,9 +1,9 @@
 //! What is built in: the definitions that each schema has, whatever its texts define, and the meta-fields.
 //!
-//! For the layer above: `built_in_definitions` answers the table (`specs/Table.antt`), each definition and each part at
+//! For the layer above: `built_in_definitions` returns the table (`specs/Table.antt`), each definition and each part at
 //! the place of what is built in; the meta-fields are those of `specs/MetaFields.antt`.
 //!
-//! Begin with `table.rt`: the table is data, and the other files build trees of its rows.
+//! Begin with `table.rt`: the table is data, and the other files build trees from its rows.
 #![tactic(auto)]
 
 mod definitions;
@@ -15,5 +15,7 @@ mod table;
 pub use definitions::{built_in_definitions, is_built_in_scalar};
 pub use meta_fields::{schema_field, type_field, typename_field};
 
-// Of the crates beneath, for those above.
-pub use schema_fold::{Definition, Document, Listed, SourceFile, TypeKind, type_definition};
+// Of the crates below, for the crates above.
+pub use schema_fold::{
+    Definition, Document, NumberedDefinition, SourceFile, TypeKind, type_definition,
+};

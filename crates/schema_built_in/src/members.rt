@@ -1,4 +1,4 @@
-//! Fields and enum values, made of the rows of the table.
+//! Fields and enum values, made from the rows of the table.
 ghost use Rattle.std.specs.Prelude.{◌≡◌, ◌++◌, ◌∷◌, [], map, None, IfOk, OnOk, IsTrue};
 ghost use Rattle.std.specs.List.{list_all};
 ghost use Rattle.graphql_names.specs.NameSyntax.{IsName, is_name};
@@ -17,7 +17,7 @@ use tree_directives::{DirectiveList, InputValueDefinition};
 use tree_literals::Type;
 use tree_type_members::{EnumValueDefinition, FieldDefinition};
 
-/// A field of these parts.
+/// A field with these parts.
 fn field_with(
     alloc: Global,
     name: Name,

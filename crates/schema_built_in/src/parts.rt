@@ -1,4 +1,4 @@
-//! The parts of built-in definitions, made of the rows of the table.
+//! The parts of built-in definitions, made from the rows of the table.
 ghost use Rattle.std.specs.Prelude.{◌≡◌, ◌++◌, ◌∷◌, [], map, None, Some, IfOk, OnOk, IsTrue};
 ghost use Rattle.std.specs.List.{list_all};
 ghost use Rattle.std.specs.Option.{option_map};
@@ -78,7 +78,7 @@ fn type_here(alloc: Global, row: TypeRow) -> Result<Node<Type>, AllocError>
     Ok(node_here(alloc, ty)?)
 }
 
-/// An argument of these parts.
+/// An argument with these parts.
 fn argument_with(
     alloc: Global,
     name: Name,
@@ -114,7 +114,7 @@ fn argument_of(alloc: Global, row: ArgumentRow) -> Result<Node<InputValueDefinit
 }
 
 /// Adds the argument of the row.
-// It makes one and pushes it, so that the loop of its caller has one `?`.
+// It makes an argument and pushes it, so that the loop of its caller has one `?`.
 fn add_argument(
     alloc: Global,
     arguments: &mut Vec<Node<InputValueDefinition>>,

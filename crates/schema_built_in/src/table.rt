@@ -8,7 +8,7 @@ use tree_directives::DirectiveLocation;
 /// A definition of the table.
 #[derive(Clone, Copy)]
 pub(crate) enum Row {
-    /// A directive: its name, its arguments, and where it may stand (section 3.13).
+    /// A directive: its name, its arguments, and where it may be applied (section 3.13).
     Directive(&'static str, &'static [ArgumentRow], &'static [DirectiveLocation]),
     /// A scalar: its name (section 3.5).
     Scalar(&'static str),

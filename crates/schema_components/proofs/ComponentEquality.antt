@@ -3,10 +3,10 @@ use Rattle.std.proofs.Common.{◌≡◌, ℕ, List}
 use Rattle.std.specs.Bool.{Decides}
 use Rattle.std.specs.Str.{bytes_eq}
 use Rattle.std.proofs.lemmas.Slice.Eq.{bytes_eq-Decides}
-use Rattle.graphql_values.specs.in_names.Node.{content}
-use Rattle.graphql_values.specs.DirectiveTree.{directive_tree, unplaced_directive}
-use Rattle.graphql_values.proofs.Decided.{lists_decide}
-use Rattle.graphql_values.proofs.DirectiveEquality.{directive_eq, directive_eq-Decides}
+use Rattle.tree_literals.specs.in_names.Node.{content}
+use Rattle.tree_operations.specs.DirectiveTree.{directive_tree, unplaced_directive}
+use Rattle.tree_operations.proofs.Decided.{lists_decide}
+use Rattle.tree_operations.proofs.DirectiveEquality.{directive_eq, directive_eq-Decides}
 use Rattle.schema_components.specs.Given.{component_tree, component_name_tree, plain_given, given_name}
 use Rattle.schema_components.specs.Applied.{applied_tree, unplaced_applied}
 use Rattle.schema_components.specs.declared.component_name.ComponentName.{ComponentName}

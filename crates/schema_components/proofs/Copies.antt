@@ -1,7 +1,7 @@
 -- Copies have the trees of the originals.
 use Rattle.std.proofs.Common.{◌≡◌, List, [], ◌∷◌, map, refl}
 use Rattle.std.specs.List.{AllZip}
-use Rattle.graphql_values.specs.in_names.Node.{content, place}
+use Rattle.tree_literals.specs.in_names.Node.{content, place}
 use Rattle.schema_components.specs.Given.{origin_tree, component_tree}
 use Rattle.schema_components.specs.declared.component.Component.{Component}
 

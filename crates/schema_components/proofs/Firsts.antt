@@ -7,7 +7,7 @@ use Rattle.std.proofs.lemmas.Map.Made.{is_some-lookup}
 use Rattle.std.proofs.lemmas.List.{append_assoc, append-nil, map-append}
 use Rattle.std.proofs.lemmas.List.Folds.{list_any-append}
 use Rattle.std.proofs.lemmas.Slice.Eq.{bytes_eq-Decides}
-use Rattle.graphql_values.specs.in_names.NameValue.{NameValue}
+use Rattle.tree_literals.specs.in_names.NameValue.{NameValue}
 use Rattle.schema_components.specs.Lists.{each_place_after, firsts, has_name, is_among}
 use Rattle.schema_components.proofs.Places.{each_place-push}
 

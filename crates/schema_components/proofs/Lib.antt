@@ -6,4 +6,4 @@ pub mod NamedLookups
 pub mod NamedWrites
 pub mod ComponentEquality
 pub mod Copies
-pub use Rattle.graphql_values.proofs as in_values
+pub use Rattle.tree_operations.proofs as in_operations

@@ -14,7 +14,7 @@ use Rattle.std.specs.FinSet.{contains, from_list, contains-from_list, same_set}
 use Rattle.std.proofs.lemmas.Slice.Eq.{bytes_eq-Decides}
 use Rattle.indexmap.specs.IndexMap.{IndexMap, index_map_eq}
 use Rattle.indexmap.specs.IndexSet.{IndexSet, index_set_eq}
-use Rattle.graphql_values.proofs.Decided.{through, carried}
+use Rattle.tree_operations.proofs.Decided.{through, carried}
 use Rattle.schema_components.specs.Names.{by_bytes, same_text, Entries, entries_of, named, names, NamedMap, Names}
 
 pub by_bytes-IsAntisymmetric : IsAntisymmetric by_bytes

@@ -13,7 +13,7 @@ use Rattle.std.proofs.lemmas.Option.{same_Some}
 use Rattle.std.proofs.lemmas.Slice.Eq.{bytes_eq-Decides}
 use Rattle.indexmap.specs.IndexMap.{IndexMap, get, values, IsUnique}
 use Rattle.indexmap.specs.IndexSet.{IndexSet}
-use Rattle.graphql_values.proofs.Decided.{through}
+use Rattle.tree_operations.proofs.Decided.{through}
 use Rattle.schema_components.specs.Names.{by_bytes, same_text, entries_of, named, names}
 use Rattle.schema_components.proofs.NamedEquality.{find-lookup, named_entries, by_name, names_of, named-by_name, names-names_of}
 

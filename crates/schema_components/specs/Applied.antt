@@ -1,9 +1,9 @@
--- Applied directives with where each comes from (GraphQL, October 2021, section 2.12).
+-- Applied directives, each with its origin (GraphQL, October 2021, section 2.12).
 use Rattle.std.specs.Prelude.{ℕ, Bool, List, map, bytes_eq}
-use Rattle.graphql_values.specs.in_names.Node.{content}
-use Rattle.graphql_values.specs.Placed.{Placed, Place}
-use Rattle.graphql_values.specs.DirectiveTree.{DirectiveTree, directive_tree, unplaced_directive}
-use Rattle.graphql_values.specs.in_directives.declared.directive.Directive.{Directive}
+use Rattle.tree_literals.specs.in_names.Node.{content}
+use Rattle.tree_literals.specs.in_names.Placed.{Placed, Place}
+use Rattle.tree_operations.specs.DirectiveTree.{DirectiveTree, directive_tree, unplaced_directive}
+use Rattle.tree_operations.specs.in_directives.declared.directive.Directive.{Directive}
 use Rattle.schema_components.specs.Given.{Given, component_tree, plain_given}
 use Rattle.schema_components.specs.declared.component.Component.{Component}
 use Rattle.schema_components.specs.declared.directive_list.DirectiveList.{DirectiveList}
@@ -19,7 +19,7 @@ applied_tree ds = map (component_tree directive_tree) ds.0.items
 abbrev pub unplaced_applied : {P : Type 0} → Applied P → List (DirectiveTree (Unit {0}))
 unplaced_applied ds = map (plain_given unplaced_directive) ds
 
--- the name of the directive is this text
+-- whether the name of the directive is this text
 abbrev pub given_has_name : {P : Type 0} → List ℕ → Given P (Placed P (DirectiveTree P)) → Bool
 given_has_name name d = bytes_eq d.it.it.name.it name
 

@@ -1,24 +1,24 @@
--- What a schema is given by its definitions and extensions: something, and where it comes from.
+-- What a definition or an extension gives to a schema: a value and its origin.
 use Rattle.std.specs.Prelude.{ℕ, List, Option, None, Some}
 use Rattle.std.specs.Option.{option_map}
-use Rattle.graphql_values.specs.Placed.{Placed, Place, Text, name_tree, node_tree}
+use Rattle.tree_literals.specs.in_names.Placed.{Placed, Place, Text, name_tree, node_tree}
 use Rattle.schema_components.specs.declared.extension.ExtensionId.{ExtensionId}
 use Rattle.schema_components.specs.declared.component.Component.{Component}
 use Rattle.schema_components.specs.declared.component.ComponentOrigin.{ComponentOrigin}
 use Rattle.schema_components.specs.declared.component.ComponentOrigin.TheVariants.{Definition, Extension}
 use Rattle.schema_components.specs.declared.component_name.ComponentName.{ComponentName}
 
--- an extension: its number, and where it stands
+-- an extension: its number and its place
 pub record ExtensionTree (P : Type 0) : Type 0 where
   pub number : ℕ
   pub place : P
 
--- something that the definition gave, or else this extension
+-- a value, and the extension that gave it; `None` if the definition gave it
 pub record Given (P A : Type 0) : Type 0 where
   pub extension : Option (ExtensionTree P)
   pub it : A
 
--- the number of an extension, and where it was read
+-- the number of an extension, and its place
 abbrev pub number_of : ExtensionId → ℕ
 number_of e = e.number
 
@@ -28,7 +28,7 @@ place_of e = e.location
 abbrev pub extension_tree : ExtensionId → ExtensionTree Place
 extension_tree e = record { number = number_of e; place = place_of e }
 
--- the extension, if it is one
+-- the extension, if the origin is one
 abbrev pub extension_id : ComponentOrigin → Option ExtensionId
 extension_id Definition = None
 extension_id (Extension e) = Some e

@@ -1,6 +1,6 @@
--- The directives of one name that an iterator has still to give.
+-- The directives of one name that an iterator has still to yield.
 use Rattle.std.specs.Prelude.{List, filter}
-use Rattle.graphql_values.specs.in_directives.declared.directive.Directive.{Directive}
+use Rattle.tree_operations.specs.in_directives.declared.directive.Directive.{Directive}
 use Rattle.schema_components.specs.Applied.{component_has_name}
 use Rattle.schema_components.specs.declared.component.Component.{Component}
 use Rattle.schema_components.specs.declared.directive_list.NamedComponents.{NamedComponents}

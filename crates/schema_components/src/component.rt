@@ -1,15 +1,15 @@
-//! Nodes and where they come from.
+//! Nodes with their origins.
 ghost use Rattle.std.specs.Prelude.{◌≡◌};
 ghost use Rattle.std.specs.Option.{option_copied};
-ghost use Rattle.graphql_values.specs.in_names.Node.{content, place};
+ghost use Rattle.tree_literals.specs.in_names.Node.{content, place};
 ghost use Rattle.schema_components.specs.Given.{extension_id};
 
 use crate::extension::ExtensionId;
-use graphql_values::Node;
 use std::alloc::AllocError;
 use std::ops::Deref;
+use tree_literals::Node;
 
-/// Where a component comes from: the definition, or one of its extensions.
+/// The origin of a component: the definition, or one of its extensions.
 #[derive(Clone, Copy, PartialEq, Eq, Hash)]
 pub enum ComponentOrigin {
     Definition,
@@ -17,7 +17,7 @@ pub enum ComponentOrigin {
 }
 
 impl ComponentOrigin {
-    /// The extension, if it is one.
+    /// The extension, if the origin is one.
     pub fn extension_id(&self) -> Option<&ExtensionId>
         ensures { option_copied result ≡ extension_id self.now }
     {
@@ -28,10 +28,10 @@ impl ComponentOrigin {
     }
 }
 
-/// A node, and where it comes from. Equality and hash are those of the node.
+/// A node and its origin. Equality and hash are those of the node.
 #[derive_where(PartialEq, Eq, Hash; T)]
 pub struct Component<T> {
-    // Not compared: a schema says the same, however it is cut into extensions.
+    // Not compared: a schema says the same, however it is divided into extensions.
     #[derive_where(skip)]
     pub origin: ComponentOrigin,
     pub node: Node<T>,
@@ -44,7 +44,7 @@ impl<T: Drop> Drop for Component<T> {
 }
 
 impl<T> Component<T> {
-    /// The node, from that origin.
+    /// The node, with that origin.
     pub fn new(origin: ComponentOrigin, node: Node<T>) -> Component<T>
         ensures origin { result.origin ≡ origin }
         ensures node { result.node ≡ node }
@@ -65,7 +65,7 @@ impl<T> Deref for Component<T> {
     }
 }
 
-/// The same node, shared, from the same origin.
+/// The same node, shared, with the same origin.
 impl<T: Drop> Clone for Component<T> {
     ghost is_clone = { λ c copy. (copy.origin ≡ c.origin) × (content copy.node ≡ content c.node) × (place copy.node ≡ place c.node) };
 

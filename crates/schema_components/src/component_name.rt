@@ -1,13 +1,13 @@
-//! Names and where they come from.
+//! Names with their origins.
 ghost use Rattle.std.specs.Prelude.{◌≡◌, Some};
 
 use crate::component::ComponentOrigin;
-use graphql_values::Name;
 use std::alloc::AllocError;
 use std::fmt;
 use std::ops::Deref;
+use tree_literals::Name;
 
-/// A name, and where it comes from. Equality and hash are those of the name.
+/// A name and its origin. Equality and hash are those of the name.
 #[derive_where(PartialEq, Eq, Hash)]
 pub struct ComponentName {
     #[derive_where(skip)]
@@ -22,7 +22,7 @@ impl Drop for ComponentName {
 }
 
 impl ComponentName {
-    /// The name, from that origin.
+    /// The name, with that origin.
     pub fn new(origin: ComponentOrigin, name: Name) -> ComponentName
         ensures origin { result.origin ≡ origin }
         ensures name { result.name ≡ name }

@@ -4,18 +4,18 @@ ghost use Rattle.std.specs.List.{list_any};
 ghost use Rattle.std.specs.Iterator.{YieldsFirstRef, item_count};
 ghost use Rattle.std.specs.Option.{option_map, option_copied};
 ghost use Rattle.std.specs.Slice.Iter.{iter_rest};
-ghost use Rattle.graphql_values.specs.DirectiveTree.{directive_tree};
+ghost use Rattle.tree_operations.specs.DirectiveTree.{directive_tree};
 ghost use Rattle.schema_components.specs.Given.{component_tree};
 ghost use Rattle.schema_components.specs.Applied.{applied_tree, given_has_name, component_has_name};
 ghost use Rattle.schema_components.specs.LeftNamed.{left_named};
 
 use crate::component::Component;
-use graphql_values::Directive;
 use std::alloc::{AllocError, AllocFailed, Global};
 use std::ops::Deref;
 use std::slice;
+use tree_operations::Directive;
 
-/// Applied directives, in order, with where each comes from.
+/// Applied directives, in order, each with its origin.
 #[derive(PartialEq, Eq, Hash)]
 pub struct DirectiveList(pub Vec<Component<Directive>>);
 
@@ -67,7 +67,7 @@ impl DirectiveList {
         }
     }
 
-    /// Puts a directive last. Where memory is refused the list stays as it was, and the directive comes back.
+    /// Puts a directive last. If memory runs out, the list is unchanged, and the directive is returned.
     pub fn push(
         &mut self,
         directive: Component<Directive>,

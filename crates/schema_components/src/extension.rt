@@ -1,11 +1,11 @@
 //! Extensions by number.
 ghost use Rattle.std.specs.Prelude.{◌≡◌, ◌≢◌, ℕ, ◌+◌, ◌<◌, ◌^◌, IfOk, IfErr, OnErr, OnOk};
-ghost use Rattle.graphql_values.specs.in_names.Node.{content, place};
+ghost use Rattle.tree_literals.specs.in_names.Node.{content, place};
 ghost use Rattle.schema_components.specs.Given.{number_of, place_of};
 
-use graphql_values::{Node, SourceSpan, Spent};
 use std::alloc::{AllocFailed, Global};
 use std::marker::Model;
+use tree_literals::{Node, SourceSpan, Spent};
 
 /// The number of an extension, and the place that it was read from, if it was read. Equality and hash are
 /// those of the number.
@@ -25,7 +25,7 @@ impl ExtensionId {
         self.location
     }
 
-    /// A node of `value` with the extension's place. Where memory is refused the value comes back.
+    /// A node of `value` with the extension's place. If memory runs out, the value is returned.
     pub fn same_location<T>(&self, alloc: Global, value: T) -> Result<Node<T>, AllocFailed<T>>
         ensures content { IfOk result (λ n. content n ≡ value) }
         ensures place { IfOk result (λ n. place n ≡ place_of self.now) }
@@ -40,7 +40,7 @@ impl ExtensionId {
 
 /// Gives each number of an extension once, in order.
 ///
-/// A contract sees it as the number that it gives next.
+/// Contracts see it as the number that it gives next.
 pub struct Extensions {
     number: u64,
 }
@@ -73,8 +73,8 @@ impl Extensions {
         Extensions { number }
     }
 
-    /// Gives the number, to an extension that was read from `location`, and goes on to the next. Where the
-    /// number is `u64::MAX` it answers `Spent` and stays.
+    /// Gives the number to an extension that was read from `location`, and continues with the next number. If
+    /// the number is `u64::MAX`, it returns `Spent` and is unchanged.
     pub fn next(&mut self, location: Option<SourceSpan>) -> Result<ExtensionId, Spent>
         ensures given { IfOk result (λ id. number_of id ≡ self.old) }
         ensures location { IfOk result (λ id. place_of id ≡ location) }

@@ -1,6 +1,6 @@
-//! What equality of each component means: it is blind to origins and places.
+//! What equality of each component means: it ignores origins and places.
 ghost use Rattle.std.specs.Prelude.{◌≡◌, ◌↔◌, IsTrue};
-ghost use Rattle.graphql_values.specs.in_names.Node.{content};
+ghost use Rattle.tree_literals.specs.in_names.Node.{content};
 ghost use Rattle.schema_components.specs.Given.{number_of};
 ghost use Rattle.schema_components.specs.Applied.{applied_tree, unplaced_applied};
 

@@ -32,14 +32,14 @@ is_sign c = list_any (λ s. c == s) (codes "@.(:)")
 abbrev pub has_no_sign : List ℕ → Bool
 has_no_sign text = list_all (λ c. not (is_sign c)) text
 
--- no part has a sign
+-- whether no part has a sign
 abbrev pub is_signless : Coordinate → Bool
 is_signless c = list_all has_no_sign (parts c)
 
--- each part is a name
+-- whether each part is a name
 abbrev pub is_named : Coordinate → Bool
 is_named c = list_all is_name (parts c)
 
--- the text is written in the form of this coordinate: its signs are those of the form, and between them stand the parts
+-- the text is this coordinate as it is printed: the signs are those of its form, and no part has a sign
 abbrev pub HasForm : List ℕ → Coordinate → Type 0
 HasForm text c = (printed c ≡ text) × (is_signless c ≡ true)

@@ -31,7 +31,7 @@ schema_coordinate (rust.FieldArgument c) = argument_coordinate c
 schema_coordinate (rust.Directive c) = directive_coordinate c
 schema_coordinate (rust.DirectiveArgument c) = directive_argument_coordinate c
 
--- of which form a coordinate is
+-- which form a coordinate has
 abbrev pub any_form : Coordinate → Bool
 any_form c = true
 

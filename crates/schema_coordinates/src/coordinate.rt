@@ -1,4 +1,4 @@
-//! Coordinates, and how one is made of another.
+//! Coordinates, and how one is made from another.
 ghost use Rattle.std.specs.Prelude.{◌≡◌};
 ghost use Rattle.schema_coordinates.specs.declared.coordinate.SchemaCoordinate.TheVariants as variant;
 

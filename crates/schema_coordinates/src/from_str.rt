@@ -15,7 +15,7 @@ use crate::parts::{Parts, parts_of};
 use graphql_names::{InvalidNameError, Name};
 use std::alloc::Global;
 
-/// `InvalidName`, if the text is no name.
+/// `InvalidName`, if the text is not a name.
 fn check_name(text: &str) -> Result<(), SchemaCoordinateParseError>
     ensures name { OnOk result (IsName text.now) }
     ensures error { IfErr result (PartsErrorIsDue (text.now ∷ [])) }
@@ -29,7 +29,7 @@ fn check_name(text: &str) -> Result<(), SchemaCoordinateParseError>
 }
 
 impl TypeCoordinate {
-    /// The coordinate that is printed so: `T`.
+    /// The coordinate that is printed as this text: `T`.
     // Not the trait `FromStr`, which does not take the `alloc` that names need.
     pub fn from_str(alloc: Global, text: &str) -> Result<TypeCoordinate, SchemaCoordinateParseError>
         ensures read { IfOk result (λ c. printed (type_coordinate c) ≡ text.now) }
@@ -42,7 +42,7 @@ impl TypeCoordinate {
         }
     }
 
-    /// The coordinate of these names.
+    /// The coordinate with these names.
     fn named(alloc: Global, ty: &str) -> Result<TypeCoordinate, SchemaCoordinateParseError>
         ensures read { IfOk result (λ c. type_coordinate c ≡ OfType ty.now) }
         ensures error { IfErr result (PartsErrorIsDue (ty.now ∷ [])) }
@@ -54,7 +54,7 @@ impl TypeCoordinate {
 }
 
 impl TypeAttributeCoordinate {
-    /// The coordinate that is printed so: `T.a`.
+    /// The coordinate that is printed as this text: `T.a`.
     pub fn from_str(
         alloc: Global,
         text: &str,
@@ -71,7 +71,7 @@ impl TypeAttributeCoordinate {
         }
     }
 
-    /// The coordinate of these names.
+    /// The coordinate with these names.
     fn named(
         alloc: Global,
         ty: &str,
@@ -80,7 +80,7 @@ impl TypeAttributeCoordinate {
         ensures read { IfOk result (λ c. attribute_coordinate c ≡ OfAttribute ty.now attribute.now) }
         ensures error { IfErr result (PartsErrorIsDue (ty.now ∷ attribute.now ∷ [])) }
     {
-        // All are tested before the first takes memory.
+        // All names are tested before the first takes memory.
         check_name(ty)?;
         check_name(attribute)?;
         let ty = Name::new_unchecked(alloc, ty)?;
@@ -90,7 +90,7 @@ impl TypeAttributeCoordinate {
 }
 
 impl FieldArgumentCoordinate {
-    /// The coordinate that is printed so: `T.f(a:)`.
+    /// The coordinate that is printed as this text: `T.f(a:)`.
     pub fn from_str(
         alloc: Global,
         text: &str,
@@ -107,7 +107,7 @@ impl FieldArgumentCoordinate {
         }
     }
 
-    /// The coordinate of these names.
+    /// The coordinate with these names.
     fn named(
         alloc: Global,
         ty: &str,
@@ -132,7 +132,7 @@ impl FieldArgumentCoordinate {
 }
 
 impl DirectiveCoordinate {
-    /// The coordinate that is printed so: `@d`.
+    /// The coordinate that is printed as this text: `@d`.
     pub fn from_str(
         alloc: Global,
         text: &str,
@@ -147,7 +147,7 @@ impl DirectiveCoordinate {
         }
     }
 
-    /// The coordinate of these names.
+    /// The coordinate with these names.
     fn named(
         alloc: Global,
         directive: &str,
@@ -162,7 +162,7 @@ impl DirectiveCoordinate {
 }
 
 impl DirectiveArgumentCoordinate {
-    /// The coordinate that is printed so: `@d(a:)`.
+    /// The coordinate that is printed as this text: `@d(a:)`.
     pub fn from_str(
         alloc: Global,
         text: &str,
@@ -179,7 +179,7 @@ impl DirectiveArgumentCoordinate {
         }
     }
 
-    /// The coordinate of these names.
+    /// The coordinate with these names.
     fn named(
         alloc: Global,
         directive: &str,
@@ -200,7 +200,7 @@ impl DirectiveArgumentCoordinate {
 }
 
 impl SchemaCoordinate {
-    /// The coordinate that is printed so, of whichever form.
+    /// The coordinate that is printed as this text, of any form.
     pub fn from_str(
         alloc: Global,
         text: &str,
@@ -212,7 +212,7 @@ impl SchemaCoordinate {
         SchemaCoordinate::named(alloc, parts)
     }
 
-    /// The coordinate of these names.
+    /// The coordinate with these names.
     fn named(
         alloc: Global,
         parts: Parts<'_>,

@@ -1,17 +1,17 @@
-//! Why a text is no coordinate.
+//! Why a text is not a coordinate.
 ghost use Rattle.std.specs.Prelude.{◌≡◌};
 
 use graphql_names::InvalidNameError;
 use std::alloc::AllocError;
 use thiserror::Error;
 
-/// Why a text is no coordinate.
+/// Why a text is not a coordinate.
 #[derive(Clone, Copy, Debug, PartialEq, Eq, Hash, Error)]
 pub enum SchemaCoordinateParseError {
-    /// The signs of the text, and what stands between them, have no form that was asked for.
+    /// The signs of the text, and what is between them, do not have a form that was asked for.
     #[error("invalid schema coordinate")]
     InvalidFormat,
-    /// The text has such a form, but one of its parts is no name.
+    /// The text has such a form, but one of its parts is not a name.
     #[error(transparent)]
     InvalidName(InvalidNameError),
     /// Memory ran out.

@@ -7,7 +7,7 @@ ghost use Rattle.schema_coordinates.specs.Reading.{parts_view, cut_at, argument_
 
 use crate::parse_error::SchemaCoordinateParseError;
 
-/// The texts that stand where a coordinate of one of the forms has its names.
+/// The texts in the positions where a coordinate of one of the forms has its names.
 #[derive(Clone, Copy)]
 pub(crate) enum Parts<'a> {
     Type(&'a str),
@@ -36,13 +36,13 @@ impl Parts<'_> {
     }
 }
 
-/// The parts of the text. `InvalidFormat`, if it is written in none of the forms: its signs have to be those of one.
+/// The parts of the text. `InvalidFormat`, if it is written in none of the forms: its signs must be those of one.
 pub(crate) fn parts_of(text: &str) -> Result<Parts<'_>, SchemaCoordinateParseError>
     ensures read { IfOk result (λ p. read text.now ≡ Some (parts_view p)) }
     ensures error { IfErr result (λ e. (form : Coordinate → Bool) → ParseErrorIsDue form text.now e) }
 {
     match cut_parts(text) {
-        // Cut at the first of each sign, a part may hold a further one: then the text has none of the forms.
+        // The text is cut at the first of each sign, so a part may have a further sign: then the text has none of the forms.
         Some(parts) if parts.are_signless() => Ok(parts),
         _ => Err(SchemaCoordinateParseError::InvalidFormat),
     }
@@ -90,7 +90,7 @@ fn directive_parts(text: &str) -> Option<Parts<'_>>
     }
 }
 
-/// What stands before `:)`, if nothing follows that.
+/// The text before `:)`, if nothing follows that.
 fn argument_part(text: &str) -> Option<&str>
     ensures { option_map (λ a. a.now) result ≡ argument_cut text.now }
 {
@@ -98,7 +98,7 @@ fn argument_part(text: &str) -> Option<&str>
     if rest == ")" { Some(argument) } else { None }
 }
 
-/// What stands before the first such sign, and what follows it.
+/// The text before the first such sign, and the text after it.
 fn cut_at(text: &str, sign: char) -> Option<(&str, &str)>
     requires { sign < 128 }
     ensures { option_map (λ p. (p.0.now, p.1.now)) result ≡ cut_at sign text.now }

@@ -2,7 +2,7 @@
 use Rattle.std.proofs.Common.{◌≡◌, ℕ, List, [], ◌∷◌, codes, refl, true, false}
 use Rattle.tree_directives.specs.declared.operation_type.OperationType.TheVariants as operation
 use Rattle.schema_types.specs.Out.{written}
-use Rattle.schema_fold.specs.Listed.{Definitions}
+use Rattle.schema_fold.specs.NumberedDefinition.{Definitions}
 use Rattle.schema_fold.specs.BuiltIn.{built_in_scalars}
 use Rattle.schema_fold.specs.Fold.{fold}
 use Rattle.schema_fold.specs.Adoption.{Settings, settled}

@@ -3,7 +3,7 @@ use Rattle.std.proofs.Common.{◌≡◌, ℕ, List, [], ◌∷◌, codes, refl, 
 use Rattle.tree_directives.specs.declared.directive_location.DirectiveLocation.TheVariants as at
 use Rattle.tree_directives.specs.declared.operation_type.OperationType.TheVariants as operation
 use Rattle.schema_types.specs.Out.{written}
-use Rattle.schema_fold.specs.Listed.{Definitions}
+use Rattle.schema_fold.specs.NumberedDefinition.{Definitions}
 use Rattle.schema_fold.specs.BuiltIn.{built_in_scalars}
 use Rattle.schema_fold.specs.Fold.{fold}
 use Rattle.schema_fold.proofs.Samples.{field, use_of, root, object, interface, extend_object, directive, extend_scalar, schema, extend_schema}

@@ -8,4 +8,4 @@ pub mod Grown
 pub mod OfKind
 pub use Rattle.schema_types.proofs as in_schema_types
 pub use Rattle.schema_types.proofs.in_components as in_components
-pub use Rattle.schema_types.proofs.in_values as in_values
+pub use Rattle.schema_types.proofs.in_operations as in_operations

@@ -16,7 +16,7 @@ use Rattle.schema_types.specs.SchemaTree.{same_kind}
 use Rattle.schema_types.specs.TypeParts.{TypeParts, TypeDefinition, type_here, type_extension_here, scalar, with_fields, union, enum, input_object}
 use Rattle.schema_types.specs.declared.type_kind.TypeKind.{TypeKind}
 use Rattle.schema_types.specs.declared.type_kind.TypeKind.TheVariants.{Scalar, Object, Interface, Union, Enum, InputObject}
-use Rattle.schema_fold.specs.Listed.{Listed}
+use Rattle.schema_fold.specs.NumberedDefinition.{NumberedDefinition}
 use Rattle.schema_fold.specs.Components.{all_given, go_together, extension_here, parts_of, keyed_firsts, field_key, value_key, input_key}
 use Rattle.schema_fold.specs.Collected.{class_from, collected_from}
 use Rattle.schema_fold.specs.Kept.{kept_from}
@@ -69,7 +69,7 @@ module _ {A : Type 0} (of : Parts → List A) (defined : Parts) where
       by true t = append-nil (all_given e (of p)) ∙ ap (all_given e) (none p (has p refl) (second_so (bytes_eq defined.name.it p.name.it) (same_kind defined.kind p.kind) t))
       by false t = refl
 
-  none_in : GivesNone → (list : List Listed) → class_from of (flat_map (extension_here defined) list) ≡ []
+  none_in : GivesNone → (list : List NumberedDefinition) → class_from of (flat_map (extension_here defined) list) ≡ []
   none_in none [] = refl
   none_in none (l ∷ ls) =
       flat_map-append (λ g. all_given g.extension (of g.it)) (extension_here defined l) (flat_map (extension_here defined) ls)
@@ -79,10 +79,10 @@ module _ {A : Type 0} (of : Parts → List A) (defined : Parts) where
 as_kind : (k : TypeKind) (p : Parts) → HasOnly p.kind p → same_kind k p.kind ≡ true → HasOnly k p
 as_kind k p has same = subst (λ j. HasOnly j p) (sym (kinds_same k p.kind same)) has
 
-abbrev IsFolded : List Listed → TypeDefinition Place → Type 0
+abbrev IsFolded : List NumberedDefinition → TypeDefinition Place → Type 0
 IsFolded list t = IsOfKind t.parts.kind (kept_from (collected_from (parts_of list t)))
 
-module _ (list : List Listed) where
+module _ (list : List NumberedDefinition) where
   pub folded_of_kind : (d : DefinitionTree Place) (t : TypeDefinition Place) → type_here d ≡ Some t → IsFolded list t
   folded_of_kind (tree.ScalarType p d t) u e = subst (IsFolded list) (same_Some _ _ e) (
     ap (firsts given_name) (none_in (λ q. q.interfaces) (scalar t) (λ q h same. (as_kind Scalar q h same).0) list),

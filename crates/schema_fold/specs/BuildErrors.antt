@@ -12,7 +12,7 @@ use Rattle.schema_types.specs.SchemaTree.{same_kind}
 use Rattle.schema_types.specs.TypeParts.{TypeParts, TypeDefinition, type_here, type_extension_here}
 use Rattle.schema_types.specs.declared.type_kind.TypeKind.{TypeKind}
 use Rattle.schema_types.specs.declared.type_kind.TypeKind.TheVariants as kind
-use Rattle.schema_fold.specs.Listed.{Definitions, numbered, type_name, types_in, type_named, directive_here, directive_name, directives_in}
+use Rattle.schema_fold.specs.NumberedDefinition.{Definitions, numbered, type_name, types_in, type_named, directive_here, directive_name, directives_in}
 use Rattle.schema_fold.specs.Components.{components, field_key, value_key, input_key}
 use Rattle.schema_fold.specs.SchemaFold.{Root, schema_here, schema_extension_here, schema_definition_in, schema_is_defined, roots_given, root_key}
 
@@ -40,12 +40,12 @@ pub record BuildFault : Type 0 where
   pub place : Place
   pub breach : Breach
 
--- ---- rules on what stands at a position of the texts' list, behind these
+-- ---- rules on a definition of the texts' list, after the definitions in `before`
 
 abbrev pub RuleAt : Type 1
 RuleAt = Definitions → DefinitionTree Place → BuildFault → Type 0
 
--- the fault stands at the definition
+-- a fault at the place of the definition
 abbrev pub At : DefinitionTree Place → Breach → BuildFault
 At d breach = record { place = definition_place d; breach = breach }
 
@@ -55,13 +55,13 @@ abbrev pub ExecutableDefinitionAt : RuleAt
 ExecutableDefinitionAt before d fault = (is_executable d ≡ true) × (fault ≡ At d ExecutableDefinition)
 
 -- SchemaDefinitionCollision: a schema is valid only if it is defined at most once (section 3.3)
--- broken by a schema definition behind another one
+-- broken by a schema definition after another one
 abbrev pub SchemaDefinitionCollisionAt : RuleAt
 SchemaDefinitionCollisionAt before d fault =
     (is_some (schema_here d) ≡ true) × (is_some (schema_definition_in before) ≡ true) × (fault ≡ At d SchemaDefinitionCollision)
 
 -- DirectiveDefinitionCollision: a directive definition is valid only if no earlier one has its name (section 3.13)
--- broken by a directive definition behind another one of its name: the built-in one does not count
+-- broken by a directive definition after another one of its name: a built-in one does not count
 abbrev pub DirectiveDefinitionCollisionAt : RuleAt
 DirectiveDefinitionCollisionAt before d fault = (own : Placed Place (DirectiveDefinitionTree Place)) × (
     (directive_here d ≡ Some own) × (has_name directive_name (directive_name own) (directives_in before) ≡ true)
@@ -71,22 +71,22 @@ module _ (built_in texts : Definitions) where
   abbrev pub with_built_in : Definitions
   with_built_in = built_in ++ texts
 
-  -- a scalar of that name is built in
+  -- whether a scalar of that name is built in
   abbrev pub is_built_in_scalar : List ℕ → Bool
   is_built_in_scalar n = option_map_or (λ t. same_kind t.parts.kind kind.Scalar) (type_named n built_in) false
 
-  -- the definition of a type behind another one of its name, built in or not
+  -- the definition of a type after another one of its name, built in or not
   abbrev pub IsSecondDefinition : Definitions → DefinitionTree Place → TypeDefinition Place → Type 0
   IsSecondDefinition before d t = (type_here d ≡ Some t) × (has_name type_name (type_name t) (types_in (built_in ++ before)) ≡ true)
 
   -- TypeDefinitionCollision: a type definition is valid only if no earlier one has its name (section 3.4)
-  -- broken by the definition of a type behind another one of its name, which is none of the built-in scalars
+  -- broken by the definition of a type after another one of its name, if no built-in scalar has that name
   abbrev pub TypeDefinitionCollisionAt : RuleAt
   TypeDefinitionCollisionAt before d fault = (t : TypeDefinition Place) × (
       IsSecondDefinition before d t × (is_built_in_scalar (type_name t) ≡ false) × (fault ≡ At d (TypeDefinitionCollision (type_name t))))
 
   -- BuiltInScalarTypeRedefinition: a type definition is valid only if no built-in scalar has its name (section 3.5)
-  -- broken by the definition of a type behind another one of its name, which is that of a built-in scalar
+  -- broken by the definition of a type after another one of its name, if a built-in scalar has that name
   abbrev pub BuiltInScalarTypeRedefinitionAt : RuleAt
   BuiltInScalarTypeRedefinitionAt before d fault = (t : TypeDefinition Place) × (
       IsSecondDefinition before d t × (is_built_in_scalar (type_name t) ≡ true) × (fault ≡ At d (BuiltInScalarTypeRedefinition (type_name t))))
@@ -110,19 +110,19 @@ module _ (built_in texts : Definitions) where
       (type_extension_here d ≡ Some e) × (type_named e.name.it with_built_in ≡ Some t) × (same_kind t.parts.kind e.kind ≡ false)
       × (fault ≡ At d (TypeExtensionKindMismatch e.name.it))))
 
-  -- a rule is broken so by what stands at some position
+  -- the definition at some position of the texts breaks the rule with this fault
   abbrev pub BreaksSomewhere : RuleAt → BuildFault → Type 0
   BreaksSomewhere rule fault = AtSomePlace (λ before d. rule before d fault) texts
 
   -- ---- rules on the components of the schema definition and of the types
 
   -- DuplicateRootOperation: a schema is valid only if it gives each operation at most one root (section 3.3.1)
-  -- broken by a root behind another one of its operation
+  -- broken by a root after another one for the same operation
   abbrev pub DuplicateRootOperationIn : ℕ → BuildFault → Type 0
   DuplicateRootOperationIn first fault = (g : Given Place Root) × (
       IsRepeated root_key (roots_given first with_built_in) g × (fault ≡ record { place = g.it.place; breach = DuplicateRootOperation g.it.it.operation_type }))
 
-  -- in a type of that kind a component of some class stands behind another one of its name
+  -- in a type of that kind, a component of one class comes after another one of its name
   abbrev pub RepeatedIn : {A : Type 0} → TypeKind → (TypeParts Place → List A) → (Given Place A → List ℕ) → (A → Place) → (List ℕ → List ℕ → Breach) → ℕ → BuildFault → Type 0
   RepeatedIn {A} kind of key place breach first fault = (t : TypeDefinition Place) × ((g : Given Place A) × (
       Contains (firsts type_name (types_in with_built_in)) t × (same_kind t.parts.kind kind ≡ true) × IsRepeated key (components of (numbered first with_built_in) t) g
@@ -158,7 +158,7 @@ module _ (built_in texts : Definitions) where
   abbrev pub InputFieldNameCollisionIn : ℕ → BuildFault → Type 0
   InputFieldNameCollisionIn = RepeatedIn kind.InputObject (λ p. p.inputs) input_key (λ x. x.place) InputFieldNameCollision
 
--- a folding rule is broken so
+-- a folding rule is broken with this fault
 pub data Fails (built_in : Definitions) (first : ℕ) (texts : Definitions) (fault : BuildFault) : Type 0 where
   executable_definition : BreaksSomewhere built_in texts ExecutableDefinitionAt fault → Fails built_in first texts fault
   schema_definition_collision : BreaksSomewhere built_in texts SchemaDefinitionCollisionAt fault → Fails built_in first texts fault

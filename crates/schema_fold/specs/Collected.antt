@@ -27,11 +27,11 @@ collected c = record {
   inputs = map (component_tree input_value_tree) c.inputs.items;
 }
 
--- those of one class
+-- the components of one class
 abbrev pub class_from : {A : Type 0} → (TypeParts Place → List A) → List (Given Place (TypeParts Place)) → List (Given Place A)
 class_from of gs = flat_map (λ g. all_given g.extension (of g.it)) gs
 
--- those that these parts give, in order
+-- the components that these parts give, in order
 abbrev pub collected_from : List (Given Place (TypeParts Place)) → AllComponents
 collected_from gs = record {
   directives = class_from (λ p. p.directives) gs;
@@ -42,7 +42,7 @@ collected_from gs = record {
   inputs = class_from (λ p. p.inputs) gs;
 }
 
--- these, and behind them those of these parts
+-- these components, each class followed by those of the parts
 abbrev pub collected_and : AllComponents → Given Place (TypeParts Place) → AllComponents
 collected_and all g = record {
   directives = all.directives ++ all_given g.extension g.it.directives;

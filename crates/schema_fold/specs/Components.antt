@@ -10,29 +10,29 @@ use Rattle.schema_types.specs.in_components.Given.{Given, ExtensionTree}
 use Rattle.schema_types.specs.in_components.Lists.{firsts}
 use Rattle.schema_types.specs.SchemaTree.{same_kind}
 use Rattle.schema_types.specs.TypeParts.{TypeParts, TypeDefinition, type_extension_here}
-use Rattle.schema_fold.specs.Listed.{Listed}
+use Rattle.schema_fold.specs.NumberedDefinition.{NumberedDefinition}
 
--- each of these, from the definition or that extension
+-- each of these, with its origin: the definition, or that extension
 abbrev pub all_given : {A : Type 0} → Option (ExtensionTree Place) → List A → List (Given Place A)
 all_given giver xs = map (λ x. record { extension = giver; it = x }) xs
 
--- these parts are of the same name and kind
+-- whether these parts have the same name and kind
 abbrev pub go_together : TypeParts Place → TypeParts Place → Bool
 go_together defined parts = bytes_eq defined.name.it parts.name.it && same_kind defined.kind parts.kind
 
--- the parts that are given here, if it is an extension of that type and of its kind
-abbrev pub extension_here : TypeParts Place → Listed → List (Given Place (TypeParts Place))
+-- the parts that l gives, if it is an extension of that type and of its kind
+abbrev pub extension_here : TypeParts Place → NumberedDefinition → List (Given Place (TypeParts Place))
 extension_here defined l = option_map_or (λ parts. if go_together defined parts then record { extension = l.extension; it = parts } ∷ [] else []) (type_extension_here l.definition) []
 
--- all parts of a type: those of its definition, and then those of its kind's extensions by position, wherever they stand
-abbrev pub parts_of : List Listed → TypeDefinition Place → List (Given Place (TypeParts Place))
+-- all parts of a type: those of its definition, then those of its extensions of the same kind, by position, wherever in the list
+abbrev pub parts_of : List NumberedDefinition → TypeDefinition Place → List (Given Place (TypeParts Place))
 parts_of list t = record { extension = None; it = t.parts } ∷ flat_map (extension_here t.parts) list
 
--- its components of one class, repeated ones too, each with what gave it
-abbrev pub components : {A : Type 0} → (TypeParts Place → List A) → List Listed → TypeDefinition Place → List (Given Place A)
+-- the components of a type of one class, repeated ones too, each with its origin
+abbrev pub components : {A : Type 0} → (TypeParts Place → List A) → List NumberedDefinition → TypeDefinition Place → List (Given Place A)
 components of list t = flat_map (λ g. all_given g.extension (of g.it)) (parts_of list t)
 
--- the names by which components are told apart
+-- the names of fields, of enum values and of input fields
 abbrev pub field_key : Given Place (Placed Place (FieldDefinitionTree Place)) → List ℕ
 field_key g = g.it.it.name.it
 

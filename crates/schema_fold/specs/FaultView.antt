@@ -33,7 +33,7 @@ fault_of f = record { place = f.0; breach = breach_of f.1 }
 abbrev pub faults_of : Vec (Place × BuildError) Global → List BuildFault
 faults_of faults = map fault_of faults.items
 
--- what a second component of one name in a type breaks
+-- the breach of a second component of one name in a type, given the names of the type and the component
 abbrev pub repeat_breach : Repeat → List ℕ → List ℕ → Breach
 repeat_breach repeat.ObjectInterface = breach.DuplicateImplementsInterfaceInObject
 repeat_breach repeat.InterfaceInterface = breach.DuplicateImplementsInterfaceInInterface

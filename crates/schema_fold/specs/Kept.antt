@@ -35,11 +35,11 @@ kept k = record {
   inputs = entries_of name_text (component_tree input_value_tree) k.inputs;
 }
 
--- nothing is kept of any class that has names
+-- no interface, field, member, value or input field is kept
 abbrev pub KeepsNothing : Kept → Type 0
 KeepsNothing k = (k.interfaces.keys ≡ []) × (k.fields.entries ≡ []) × (k.members.keys ≡ []) × (k.values.entries ≡ []) × (k.inputs.entries ≡ [])
 
--- the first of each name, and all applied directives
+-- the first component of each name, and all applied directives
 abbrev pub kept_from : AllComponents → KeptComponents
 kept_from all = record {
   directives = all.directives;
@@ -50,7 +50,7 @@ kept_from all = record {
   inputs = keyed_firsts input_key all.inputs;
 }
 
--- the rules that a second interface or field breaks
+-- the rules that a second interface or field of one name breaks in a type of that kind
 abbrev pub interface_repeat : TypeKind → Repeat
 interface_repeat kind.Object = repeat.ObjectInterface
 interface_repeat _ = repeat.InterfaceInterface

@@ -1,4 +1,4 @@
-pub mod Listed
+pub mod NumberedDefinition
 pub mod Components
 pub mod SchemaFold
 pub mod Fold
@@ -13,7 +13,7 @@ pub mod Keeping
 pub mod Collected
 pub mod ListedView
 pub mod Kept
-pub mod Steps
+pub mod RepeatedComponents
 pub mod Made
 pub use Rattle.schema_types.specs as in_schema_types
 pub use Rattle.schema_types.specs.in_components as in_components
@@ -22,4 +22,3 @@ pub use Rattle.tree_directives.specs as in_directives
 pub use Rattle.tree_directives.specs.in_literals as in_literals
 pub use Rattle.tree_definitions.specs.in_operations as in_operations
 pub use Rattle.schema_types.specs.in_type_members as in_type_members
-pub use Rattle.schema_types.specs.in_values as in_values

@@ -1,4 +1,4 @@
--- Private: leads to `specs/Fold.antt`. A type made of its definition and of what it keeps.
+-- Private: leads to `specs/Fold.antt`. A type made from its definition and the components that are kept.
 use Rattle.std.specs.Prelude.{◌≡◌, [], Option, Some}
 use Rattle.std.specs.Option.{option_map}
 use Rattle.graphql_names.specs.Placed.{Place, Text, name_tree, text_tree}
@@ -35,7 +35,7 @@ made t kept = made_at t.parts.kind t.place t.description t.parts.name kept
 abbrev pub headed : TypeKind → Place → Head → KeptComponents → SchemaType Place
 headed kind place head kept = made_at kind place (option_map text_tree head.description) (name_tree head.name) kept
 
--- the classes that a kind has not are empty
+-- the classes that types of this kind do not have are empty
 abbrev pub IsOfKind : TypeKind → KeptComponents → Type 0
 IsOfKind Scalar kept = (kept.interfaces ≡ []) × (kept.fields ≡ []) × (kept.members ≡ []) × (kept.values ≡ []) × (kept.inputs ≡ [])
 IsOfKind Object kept = (kept.members ≡ []) × (kept.values ≡ []) × (kept.inputs ≡ [])
@@ -44,6 +44,6 @@ IsOfKind Union kept = (kept.interfaces ≡ []) × (kept.fields ≡ []) × (kept.
 IsOfKind Enum kept = (kept.interfaces ≡ []) × (kept.fields ≡ []) × (kept.members ≡ []) × (kept.inputs ≡ [])
 IsOfKind InputObject kept = (kept.interfaces ≡ []) × (kept.fields ≡ []) × (kept.members ≡ []) × (kept.values ≡ [])
 
--- t is what some definition of a type tells
+-- t is what some definition of a type defines
 abbrev pub IsDefinition : TypeDefinition Place → Type 0
 IsDefinition t = (d : DefinitionTree Place) × (type_here d ≡ Some t)

@@ -1,6 +1,6 @@
--- The text of each breach of a folding rule: its template, filled with the names that it tells.
+-- The text of each breach of a folding rule: its template, filled with the data of the breach.
 use Rattle.std.specs.Prelude.{ℕ, List, ◌++◌, codes}
-use Rattle.schema_types.specs.in_values.OperationQueries.{operation_keyword}
+use Rattle.schema_types.specs.in_operations.OperationQueries.{operation_keyword}
 use Rattle.schema_fold.specs.BuildErrors as breach
 use Rattle.schema_fold.specs.BuildErrors.{Breach}
 

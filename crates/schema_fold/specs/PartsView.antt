@@ -20,10 +20,10 @@ parts_view p = record {
   inputs = map (node_tree input_value_tree) p.inputs.now;
 }
 
--- a content itself
+-- the content, unchanged
 abbrev pub itself : {A : Type 0} → A → A
 itself x = x
 
--- components as what was given, with the contents of their nodes
+-- components as contracts see them, with the contents of their nodes unchanged
 abbrev pub given_contents : {A : Type 0} → List (Component A) → List (Given Place (Placed Place A))
 given_contents cs = map (component_tree itself) cs

@@ -4,7 +4,7 @@ use Rattle.std.specs.List.{flat_map, find}
 use Rattle.std.specs.Option.{option_map, option_map_or}
 use Rattle.std.specs.Str.{bytes_eq}
 use Rattle.graphql_names.specs.Placed.{Placed, Place, Text}
-use Rattle.schema_types.specs.in_values.OperationQueries.{operation_keyword, default_root_name}
+use Rattle.schema_types.specs.in_operations.OperationQueries.{operation_keyword, default_root_name}
 use Rattle.tree_directives.specs.declared.operation_type.OperationType.{OperationType}
 use Rattle.tree_directives.specs.declared.operation_type.OperationType.TheVariants as operation
 use Rattle.schema_types.specs.in_type_members.TypeSystemTree.{RootOperationTree, SchemaParts}
@@ -12,13 +12,13 @@ use Rattle.tree_definitions.specs.DefinitionTree.{DefinitionTree, Schema, Extend
 use Rattle.schema_types.specs.in_components.Given.{Given}
 use Rattle.schema_types.specs.SchemaTree.{SchemaRoots, same_kind}
 use Rattle.schema_types.specs.declared.type_kind.TypeKind.TheVariants.{Object}
-use Rattle.schema_fold.specs.Listed.{Definitions, Listed, numbered, type_named}
+use Rattle.schema_fold.specs.NumberedDefinition.{Definitions, NumberedDefinition, numbered, type_named}
 use Rattle.schema_fold.specs.Components.{all_given}
 
 abbrev pub Root : Type 0
 Root = Placed Place (RootOperationTree Place)
 
--- what a schema definition tells
+-- what a schema definition gives, with its place
 pub record SchemaGiver : Type 0 where
   pub place : Place
   pub description : Option (Text Place)
@@ -36,7 +36,7 @@ schema_extension_here _ = None
 abbrev pub schema_definition_in : Definitions → Option SchemaGiver
 schema_definition_in ds = slice_get (flat_map (λ d. option_to_list (schema_here d)) ds) 0
 
--- an object of that name is defined
+-- whether the type of that name is an object
 abbrev pub is_object_in : Definitions → List ℕ → Bool
 is_object_in ds name = option_map_or (λ t. same_kind t.parts.kind Object) (type_named name ds) false
 
@@ -50,26 +50,26 @@ implicit_root ds operation =
 abbrev pub implicit_roots : Definitions → List Root
 implicit_roots ds = implicit_root ds operation.Query ++ (implicit_root ds operation.Mutation ++ implicit_root ds operation.Subscription)
 
--- extensions of the schema apply: there is a schema definition, or some implicit root
+-- whether the schema is defined, so that its extensions apply: there is a schema definition, or some implicit root
 abbrev pub schema_is_defined : Definitions → Bool
 schema_is_defined ds = is_some (schema_definition_in ds) || is_some (slice_get (implicit_roots ds) 0)
 
--- what stands for the definition: the first one, or else no description, no directives and the implicit roots
+-- what serves as the schema definition: the first one, or else no place, no description, no directives and the implicit roots
 abbrev pub schema_base : Definitions → SchemaGiver
 schema_base ds = option_map_or (λ s. s) (schema_definition_in ds) (record { place = None; description = None; parts = record { directives = []; roots = implicit_roots ds } })
 
-abbrev pub extends_schema : Listed → List (Given Place (SchemaParts Place))
+abbrev pub extends_schema : NumberedDefinition → List (Given Place (SchemaParts Place))
 extends_schema l = all_given l.extension (option_to_list (schema_extension_here l.definition))
 
--- all parts of the schema definition: those of what stands for it, and then those of the schema extensions by position, where they apply
+-- all parts of the schema: those of `schema_base`, then those of the schema extensions by position, if the schema is defined
 abbrev pub schema_parts_given : ℕ → Definitions → List (Given Place (SchemaParts Place))
 schema_parts_given first ds = record { extension = None; it = (schema_base ds).parts } ∷ (if schema_is_defined ds then flat_map extends_schema (numbered first ds) else [])
 
--- its roots, repeated ones too
+-- the roots of the schema, repeated ones too, each with its origin
 abbrev pub roots_given : ℕ → Definitions → List (Given Place Root)
 roots_given first ds = flat_map (λ g. all_given g.extension g.it.roots) (schema_parts_given first ds)
 
--- roots are told apart by their operations
+-- the key of a root: the keyword of its operation
 abbrev pub root_key : Given Place Root → List ℕ
 root_key g = operation_keyword g.it.it.operation_type
 
@@ -77,7 +77,7 @@ root_key g = operation_keyword g.it.it.operation_type
 abbrev pub root_in : OperationType → List (Given Place Root) → Option (Given Place (Text Place))
 root_in operation roots = option_map (λ g. record { extension = g.extension; it = g.it.it.name }) (find (λ g. bytes_eq (operation_keyword operation) (root_key g)) roots)
 
--- what a schema has of its schema definition
+-- the schema definition that a list folds to, with the first root of each operation
 abbrev pub folded_schema : ℕ → Definitions → SchemaRoots Place
 folded_schema first ds = record {
   place = (schema_base ds).place;

@@ -1,13 +1,13 @@
 //! What breaks a folding rule.
 ghost use Rattle.std.specs.Prelude.{◌≡◌, ◌++◌, [], ◌∷◌, OnOk};
 ghost use Rattle.schema_fold.specs.FaultView.{faults_of, breach_of, repeat_breach};
-ghost use Rattle.schema_fold.specs.Steps.{repeat_fault};
+ghost use Rattle.schema_fold.specs.RepeatedComponents.{repeat_fault};
 
 use graphql_names::{Name, SourceSpan};
 use std::alloc::AllocError;
 use tree_definitions::OperationType;
 
-/// What breaks a folding rule, with the names that its message tells (section 3).
+/// What breaks a folding rule, with the names that are in its message (section 3).
 pub enum BuildError {
     /// An operation or a fragment in a schema text.
     ExecutableDefinition,
@@ -87,7 +87,7 @@ impl Drop for BuildError {
     }
 }
 
-/// The rules that a second component of one name breaks.
+/// The rules that a second component of one name can break.
 #[derive(Clone, Copy)]
 pub enum Repeat {
     /// An object type is valid only if it names each of its interfaces once (section 3.6).

@@ -110,7 +110,7 @@ fn around<'a>(front: &'static str, name: &'a str, back: &'static str) -> Templat
     }
 }
 
-/// The type has something of that name more than once.
+/// The type has a component of that name more than once.
 fn has_twice<'a>(type_name: &'a Name, name: &'a Name) -> Template<'a>
     ensures { filled result ≡ has_twice type_name.now.text name.now.text }
 {

@@ -5,7 +5,7 @@ ghost use Rattle.schema_types.specs.in_components.Given.{origin_tree};
 ghost use Rattle.schema_fold.specs.Components.{all_given};
 ghost use Rattle.schema_fold.specs.PartsView.{itself, given_contents, parts_view};
 ghost use Rattle.schema_fold.specs.Collected.{collected, collected_from, collected_and};
-ghost use Rattle.schema_fold.specs.Steps.{AddsNames};
+ghost use Rattle.schema_fold.specs.RepeatedComponents.{AddsNames};
 
 use crate::parts::Parts;
 use graphql_names::{Name, Node};
@@ -15,7 +15,7 @@ use schema_types::{
 use std::alloc::{AllocError, Global};
 use tree_directives::{Directive, InputValueDefinition};
 
-/// Adds these nodes, shared, from that origin.
+/// Adds these nodes, shared, with that origin.
 pub fn add_components<T: Drop>(
     all: &mut Vec<Component<T>>,
     origin: ComponentOrigin,
@@ -30,7 +30,7 @@ pub fn add_components<T: Drop>(
     Ok(())
 }
 
-/// Adds these names, from that origin.
+/// Adds these names, with that origin.
 pub(crate) fn add_names(
     all: &mut Vec<ComponentName>,
     origin: ComponentOrigin,
@@ -55,7 +55,7 @@ pub(crate) struct Collected {
     pub(crate) inputs: Vec<Component<InputValueDefinition>>,
 }
 
-/// Lets each class go, here and not wherever what is collected goes.
+/// Drops each class, here and not at each place where a `Collected` is dropped.
 impl Drop for Collected {
     fn drop(self) {
         let Collected {
@@ -70,7 +70,7 @@ impl Drop for Collected {
 }
 
 impl Collected {
-    /// Nothing.
+    /// Without components.
     pub(crate) fn new(alloc: Global) -> Collected
         ensures { collected result ≡ collected_from [] }
     {
@@ -84,7 +84,7 @@ impl Collected {
         }
     }
 
-    /// Adds these parts, from that origin.
+    /// Adds these parts, with that origin.
     pub(crate) fn add(
         &mut self,
         origin: ComponentOrigin,

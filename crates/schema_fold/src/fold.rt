@@ -13,19 +13,19 @@ use crate::build_error::BuildError;
 use crate::collected::Collected;
 use crate::gather::collect_type;
 use crate::kept_classes::Kept;
-use crate::listed::Listed;
 use crate::make::make_type;
+use crate::numbered_definition::NumberedDefinition;
 use crate::parts::Defined;
 use graphql_names::SourceSpan;
 use schema_types::ExtendedType;
 use std::alloc::{AllocError, Global};
 
-/// Folds a type: its definition and then each of these that extends it, in order. Tells each component that is not
+/// Folds a type: its definition, then each entry of the list that extends it, in order. Tells each component that is not
 /// the first of its name.
 pub fn fold_type(
     alloc: Global,
     defined: &Defined<'_>,
-    list: &[Listed],
+    list: &[NumberedDefinition],
     faults: &mut Vec<(Option<SourceSpan>, BuildError)>,
 ) -> Result<ExtendedType, AllocError>
     requires { IsDefinition (defined_view defined.now) }

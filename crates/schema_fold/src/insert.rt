@@ -1,4 +1,4 @@
-//! What is new under its name.
+//! Inserting under a new name.
 ghost use Rattle.std.specs.Prelude.{◌≡◌, ◌++◌, ◌∷◌, [], None, OnOk};
 ghost use Rattle.indexmap.specs.IndexMap.{get};
 ghost use Rattle.schema_types.specs.in_components.Names.{same_text};
@@ -8,7 +8,7 @@ use graphql_names::Name;
 use indexmap::IndexMap;
 use std::alloc::AllocError;
 
-/// Inserts a value under a name that nothing stands under.
+/// Inserts a value under a name that has no value yet.
 pub fn insert_new<T: Drop>(
     map: &mut IndexMap<Name, T>,
     name: &Name,
@@ -17,7 +17,7 @@ pub fn insert_new<T: Drop>(
     requires { get (same_text name_text) map.old name.now ≡ None }
     ensures { OnOk result (map.new.entries ≡ map.old.entries ++ (name.now, value) ∷ []) }
 {
-    // Both `?` stand here once, and not in each caller with what it owns.
+    // Both `?` are here once, and not in each caller with what it owns.
     let name = name.clone()?;
     map.insert(name, value)?;
     Ok(())

@@ -9,7 +9,7 @@ ghost use Rattle.schema_fold.specs.Components.{keyed_firsts};
 ghost use Rattle.schema_fold.specs.FaultView.{faults_of};
 ghost use Rattle.schema_fold.specs.PartsView.{itself, given_contents};
 ghost use Rattle.schema_fold.specs.Keeping.{content_key};
-ghost use Rattle.schema_fold.specs.Steps.{told_of_components, told_of_names};
+ghost use Rattle.schema_fold.specs.RepeatedComponents.{told_of_components, told_of_names};
 
 use crate::build_error::{BuildError, Repeat, note_repeat};
 use crate::insert::insert_new;
@@ -19,7 +19,7 @@ use schema_types::{Component, ComponentName, EnumValueDefinition, FieldDefinitio
 use std::alloc::AllocError;
 use tree_directives::InputValueDefinition;
 
-/// Something that a type has under its name.
+/// A component that a type has under its name.
 pub trait Keyed {
     /// Its name.
     ghost key_of: { Self → NameValue };

@@ -24,7 +24,7 @@ pub(crate) struct Kept {
     pub(crate) inputs: IndexMap<Name, Component<InputValueDefinition>>,
 }
 
-/// Lets each class go, here and not wherever what is kept goes.
+/// Drops each class, here and not at each place where a `Kept` is dropped.
 impl Drop for Kept {
     fn drop(self) {
         let Kept {
@@ -39,7 +39,7 @@ impl Drop for Kept {
 }
 
 impl Kept {
-    /// Nothing.
+    /// Without components.
     pub(crate) fn new(alloc: Global) -> Kept
         ensures { KeepsNothing result }
     {
@@ -106,8 +106,8 @@ impl Kept {
     }
 }
 
-/// The rule that a second interface breaks.
-// Besides objects, only interfaces list any.
+/// The rule that a second interface of one name breaks.
+// Apart from objects, only interfaces list any.
 fn interface_repeat(kind: TypeKind) -> Repeat
     ensures { result ≡ interface_repeat kind }
 {
@@ -117,8 +117,8 @@ fn interface_repeat(kind: TypeKind) -> Repeat
     }
 }
 
-/// The rule that a second field breaks.
-// Besides objects, only interfaces have any: input fields are apart.
+/// The rule that a second field of one name breaks.
+// Apart from objects, only interfaces have any: input fields are a separate class.
 fn field_repeat(kind: TypeKind) -> Repeat
     ensures { result ≡ field_repeat kind }
 {

@@ -14,17 +14,17 @@ mod gather;
 mod insert;
 mod keep;
 mod kept_classes;
-mod listed;
 mod make;
+mod numbered_definition;
 mod parts;
 
 pub use build_error::{BuildError, Repeat, tell};
 pub use collected::add_components;
 pub use fold::fold_type;
 pub use insert::insert_new;
-pub use listed::Listed;
+pub use numbered_definition::NumberedDefinition;
 pub use parts::{Defined, Parts, extension_parts, type_definition};
 pub use schema_types::{ExtendedType, SchemaDefinition, TypeKind, node_at};
 pub use tree_definitions::{Definition, Document, ObjectTypeDefinition, SourceFile};
 
-// Of the crates beneath, for those above.
+// Of the crates below, for the crates above.

@@ -1,4 +1,4 @@
-//! A type of any kind, made of what it keeps.
+//! A type of any kind, made from the components that are kept.
 ghost use Rattle.std.specs.Prelude.{◌≡◌, IfOk};
 ghost use Rattle.std.specs.Option.{option_map};
 ghost use Rattle.graphql_names.specs.Placed.{Place, name_tree, text_tree};
@@ -26,7 +26,7 @@ struct Head {
 }
 
 /// The type with that definition and these components, which are taken.
-// The parts are lent and taken one by one: six owned lists and maps would live across each `?`.
+// The components are borrowed and taken one by one: otherwise six owned lists and maps would live across each `?`.
 pub(crate) fn make_type(
     alloc: Global,
     defined: &Defined<'_>,

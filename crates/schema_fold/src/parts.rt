@@ -15,7 +15,7 @@ use tree_definitions::Definition;
 use tree_directives::{DirectiveList, InputValueDefinition};
 
 /// What a definition or an extension gives to its type. Interfaces, fields, members, values and input fields
-/// are empty where the kind has none.
+/// are empty if the kind has none.
 #[derive(Drop)]
 pub struct Parts<'a> {
     pub kind: TypeKind,
@@ -28,7 +28,7 @@ pub struct Parts<'a> {
     pub inputs: &'a [Node<InputValueDefinition>],
 }
 
-/// The definition of a type: where it stands, its description, and what it gives.
+/// The definition of a type: its place, its description, and what it gives.
 #[derive(Drop)]
 pub struct Defined<'a> {
     pub location: Option<SourceSpan>,
@@ -37,7 +37,7 @@ pub struct Defined<'a> {
 }
 
 /// The type that is defined, if it is a definition of one.
-// The kinds are matched here once, and what they have is lent: a match in each caller would be proved again.
+// The kinds are matched here once, and their parts are lent: a match in each caller would be proved again.
 pub fn type_definition(d: &Definition) -> Option<Defined<'_>>
     ensures { option_map defined_view result ≡ type_here (definition_tree d.now) }
 {

@@ -9,7 +9,7 @@ use Rattle.graphql_names.specs.Placed.{Place}
 use Rattle.schema_fold.specs.in_definitions.DefinitionTree.{DefinitionTree}
 use Rattle.schema_fold.specs.in_components.Lists.{each_place_after, firsts, has_name, is_among}
 use Rattle.schema_fold.specs.in_schema_types.TypeParts.{TypeParts, TypeDefinition, type_here}
-use Rattle.schema_fold.specs.Listed.{Definitions, type_name, types_in}
+use Rattle.schema_fold.specs.NumberedDefinition.{Definitions, type_name, types_in}
 use Rattle.schema_fold.specs.in_schema_types.declared.type_kind.TypeKind.{TypeKind}
 use Rattle.schema_fold_index.specs.Index.{StandingParts, standing_name, parts_here, standing_after, standing_in_list, first_of, first_filed, FiledEntries, AreFiled, NamedKind, filed_kind, text_kind}
 

@@ -13,20 +13,20 @@ use Rattle.schema_fold.specs.in_components.Lists.{each_place_after, firsts, has_
 use Rattle.schema_fold.proofs.in_components.Firsts.{kept_seen, kept_new}
 use Rattle.schema_fold.proofs.in_components.Places.{each_place-push}
 use Rattle.schema_fold.specs.in_schema_types.TypeParts.{TypeParts, TypeDefinition, type_here, type_extension_here}
-use Rattle.schema_fold.specs.Listed.{Definitions, Listed, type_name, types_in, definitions_of}
+use Rattle.schema_fold.specs.NumberedDefinition.{Definitions, NumberedDefinition, type_name, types_in, definitions_of}
 use Rattle.schema_fold.specs.PartsView.{parts_view}
 use Rattle.schema_fold.specs.declared.parts.Parts.{Parts}
-use Rattle.schema_fold_index.specs.declared.index.Filed.{Filed}
+use Rattle.schema_fold_index.specs.declared.index.Positions.{Positions}
 use Rattle.schema_fold_index.specs.Index.{StandingParts, standing_name, parts_here, standing_after, standing_in_list, positions_named, first_of, first_filed, positions_of, FiledEntries, AreFiled, FilesUnder, listed_at, defined_at, extensions_under}
 use Rattle.schema_fold_index.proofs.Under.{added_behind, added_new}
 
 -- ---- extensions by name
 
-abbrev pub extends_name : List ℕ → Listed → Bool
+abbrev pub extends_name : List ℕ → NumberedDefinition → Bool
 extends_name n l = option_map_or (λ parts. bytes_eq n parts.name.it) (type_extension_here l.definition) false
 
 -- the extensions of the types of that name, of every kind, in order
-abbrev pub extensions_named : List ℕ → List Listed → List Listed
+abbrev pub extensions_named : List ℕ → List NumberedDefinition → List NumberedDefinition
 extensions_named n list = filter (extends_name n) list
 
 abbrev test : List ℕ → NameValue → Bool
@@ -67,7 +67,7 @@ positions_named-push n ss s =
     by false = refl
 
 -- a write that leaves kind and first position as they are
-same_firsts : (name : List ℕ) (v w : Filed) → w.kind ≡ v.kind → w.first ≡ v.first → (es : FiledEntries) → lookup (test name) es ≡ Some v
+same_firsts : (name : List ℕ) (v w : Positions) → w.kind ≡ v.kind → w.first ≡ v.first → (es : FiledEntries) → lookup (test name) es ≡ Some v
     → map first_filed (set_value (test name) es w) ≡ map first_filed es
 same_firsts name v w kind first [] found = refl
 same_firsts name v w kind first (e ∷ es) found = by (bytes_eq name e.0.text) found (same_firsts name v w kind first es)
@@ -87,7 +87,7 @@ module _ (es new : FiledEntries) (position : ℕ) (p : Parts) where
   added n = if bytes_eq n own.name.it then position ∷ [] else []
 
   -- where others stand under the name, and where none does
-  pub files_behind : (v w : Filed) → lookup (test own.name.it) es ≡ Some v → w.kind ≡ v.kind → w.first ≡ v.first → w.others.items ≡ v.others.items ++ position ∷ []
+  pub files_behind : (v w : Positions) → lookup (test own.name.it) es ≡ Some v → w.kind ≡ v.kind → w.first ≡ v.first → w.others.items ≡ v.others.items ++ position ∷ []
       → new ≡ set_value (test own.name.it) es w → FilesUnder position own es new
   files_behind v w found kind first others is ss filed = (
     ap (map first_filed) is ∙ same_firsts own.name.it v w kind first es found
@@ -96,7 +96,7 @@ module _ (es new : FiledEntries) (position : ℕ) (p : Parts) where
         ∙ ap (λ l. l ++ added n) (filed.1 n) ∙ sym (positions_named-push n ss (stands position own)),
   )
 
-  pub files_first : (w : Filed) → lookup (test own.name.it) es ≡ None → w.kind ≡ own.kind → w.first ≡ position → w.others.items ≡ []
+  pub files_first : (w : Positions) → lookup (test own.name.it) es ≡ None → w.kind ≡ own.kind → w.first ≡ position → w.others.items ≡ []
       → new ≡ es ++ (p.name.now, w) ∷ [] → FilesUnder position own es new
   files_first w absent kind first others is ss filed = (
     kept_new standing_name first_filed first_of (λ f. f.name.it) (λ e. refl) (λ s. refl) es ss (stands position own) (map first_filed new) filed.0 (ap is_some absent)
@@ -107,7 +107,7 @@ module _ (es new : FiledEntries) (position : ℕ) (p : Parts) where
 
 -- ---- the extensions of a name
 
-stands_at : (before : List Listed) (l : Listed) (after : List Listed) → slice_get (before ++ l ∷ after) (length (definitions_of before)) ≡ Some l
+stands_at : (before : List NumberedDefinition) (l : NumberedDefinition) (after : List NumberedDefinition) → slice_get (before ++ l ∷ after) (length (definitions_of before)) ≡ Some l
 stands_at [] l after = refl
 stands_at (b ∷ before) l after = stands_at before l after
 
@@ -115,25 +115,25 @@ defined_here : (before : Definitions) (d : DefinitionTree Place) (after : Defini
 defined_here [] d after = refl
 defined_here (b ∷ before) d after = defined_here before d after
 
-abbrev extending : Definitions → List Listed → List StandingParts
+abbrev extending : Definitions → List NumberedDefinition → List StandingParts
 extending before rest = standing_after type_extension_here before (definitions_of rest)
 
-module _ (n : List ℕ) (all : List Listed) (behind : List StandingParts) (found : List Listed) where
+module _ (n : List ℕ) (all : List NumberedDefinition) (behind : List StandingParts) (found : List NumberedDefinition) where
   -- what is found at the positions of these and of one in front of them
   abbrev Finds : Type 0
   Finds = flat_map (listed_at all) (positions_named n behind) ≡ found
 
-  found_too : (place : ℕ) (l : Listed) → slice_get all place ≡ Some l → (parts : TypeParts Place) (b : Bool) → Finds
+  found_too : (place : ℕ) (l : NumberedDefinition) → slice_get all place ≡ Some l → (parts : TypeParts Place) (b : Bool) → Finds
       → flat_map (listed_at all) (map (λ s. s.position) (cond b (stands place parts ∷ filter (λ s. bytes_eq n (standing_name s)) behind) (filter (λ s. bytes_eq n (standing_name s)) behind))) ≡ cond b (l ∷ found) found
   found_too place l at parts true rest = λ i. option_to_list (at i) ++ rest i
   found_too place l at parts false rest = rest
 
-  found_more : (place : ℕ) (l : Listed) → slice_get all place ≡ Some l → (o : Option (TypeParts Place)) → Finds
+  found_more : (place : ℕ) (l : NumberedDefinition) → slice_get all place ≡ Some l → (o : Option (TypeParts Place)) → Finds
       → flat_map (listed_at all) (positions_named n (map (λ parts. stands place parts) (option_to_list o) ++ behind)) ≡ cond (option_map_or (λ parts. bytes_eq n parts.name.it) o false) (l ∷ found) found
   found_more place l at None rest = rest
   found_more place l at (Some parts) rest = found_too place l at parts (bytes_eq n parts.name.it) rest
 
-extensions_after : (n : List ℕ) (before rest : List Listed) → flat_map (listed_at (before ++ rest)) (positions_named n (extending (definitions_of before) rest)) ≡ extensions_named n rest
+extensions_after : (n : List ℕ) (before rest : List NumberedDefinition) → flat_map (listed_at (before ++ rest)) (positions_named n (extending (definitions_of before) rest)) ≡ extensions_named n rest
 extensions_after n before [] = refl
 extensions_after n before (l ∷ ls) =
     let found = extensions_named n ls in
@@ -143,7 +143,7 @@ extensions_after n before (l ∷ ls) =
     (subst (λ ds. Finds n (before ++ l ∷ ls) (extending ds ls) found) (map-append (λ x. x.definition) before (l ∷ [])) same)
 
 -- under each name are the extensions of the name
-pub extensions_filed : (list : List Listed) (es : FiledEntries) → AreFiled (standing_in_list type_extension_here (definitions_of list)) es → (n : List ℕ) → extensions_under list es n ≡ extensions_named n list
+pub extensions_filed : (list : List NumberedDefinition) (es : FiledEntries) → AreFiled (standing_in_list type_extension_here (definitions_of list)) es → (n : List ℕ) → extensions_under list es n ≡ extensions_named n list
 extensions_filed list es filed n = ap (flat_map (listed_at list)) (filed.1 n) ∙ extensions_after n [] list
 
 -- ---- the first definitions
@@ -198,7 +198,7 @@ places_of : (ss : List StandingParts) → map (λ f. f.position) (map first_of s
 places_of [] = refl
 places_of (s ∷ ss) = ap (λ l. s.position ∷ l) (places_of ss)
 
-defined_of : (ds : Definitions) (fs : List Filed) → flat_map (λ f. defined_at ds f.first) fs ≡ flat_map (defined_at ds) (map (λ f. f.first) fs)
+defined_of : (ds : Definitions) (fs : List Positions) → flat_map (λ f. defined_at ds f.first) fs ≡ flat_map (defined_at ds) (map (λ f. f.first) fs)
 defined_of ds [] = refl
 defined_of ds (f ∷ fs) = ap (λ l. defined_at ds f.first ++ l) (defined_of ds fs)
 

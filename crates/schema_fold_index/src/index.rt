@@ -4,7 +4,7 @@ ghost use Rattle.indexmap.specs.IndexMap.{get};
 ghost use Rattle.schema_fold.specs.in_components.Names.{same_text};
 ghost use Rattle.schema_fold.specs.in_definitions.DefinitionTree.{definition_tree};
 ghost use Rattle.schema_fold.specs.in_schema_types.TypeView.{name_text};
-ghost use Rattle.schema_fold.specs.Listed.{definitions_of};
+ghost use Rattle.schema_fold.specs.NumberedDefinition.{definitions_of};
 ghost use Rattle.schema_fold.specs.ListedView.{listed_view};
 ghost use Rattle.schema_fold.specs.PartsView.{parts_view};
 ghost use Rattle.schema_fold_index.specs.Index.{IsIndexOf, Files, FilesUnder, FilesRest};
@@ -12,23 +12,23 @@ ghost use Rattle.schema_fold_index.specs.Index.{IsIndexOf, Files, FilesUnder, Fi
 use graphql_names::Name;
 use indexmap::IndexMap;
 use schema_fold::{
-    Definition, Listed, Parts, TypeKind, extension_parts, insert_new, type_definition,
+    Definition, NumberedDefinition, Parts, TypeKind, extension_parts, insert_new, type_definition,
 };
 use std::alloc::{AllocError, Global};
 
-/// What is filed under the name of a type: the kind and the position of the first, and the positions of the others,
-/// in the order of the list.
+/// What is filed under the name of a type: the kind and the position of the first entry, and the positions of the
+/// others, in the order of the list.
 // Positions and not references: a schema builder owns the list and its index together.
-pub struct Filed {
+pub struct Positions {
     pub kind: TypeKind,
     pub first: usize,
     pub others: Vec<usize>,
 }
 
-/// Lets the positions go, here and not wherever what is filed goes.
-impl Drop for Filed {
+/// Drops the positions, here and not at each place where a `Positions` is dropped.
+impl Drop for Positions {
     fn drop(self) {
-        let Filed {
+        let Positions {
             kind: _,
             first: _,
             others: _,
@@ -36,7 +36,7 @@ impl Drop for Filed {
     }
 }
 
-impl Filed {
+impl Positions {
     /// Adds a position after the others.
     fn add(&mut self, position: usize) -> Result<(), AllocError>
         ensures kind { self.new.kind ≡ self.old.kind }
@@ -48,14 +48,14 @@ impl Filed {
     }
 }
 
-/// What a list has of types: the definitions, and the extensions, under the names of their types, in the order of the
+/// The types of a list: the definitions, and the extensions, under the names of their types, in the order of the
 /// first of each name.
 pub struct Index {
-    pub defined: IndexMap<Name, Filed>,
-    pub extended: IndexMap<Name, Filed>,
+    pub defined: IndexMap<Name, Positions>,
+    pub extended: IndexMap<Name, Positions>,
 }
 
-/// Lets what is filed go, here and not wherever an index goes.
+/// Drops what is filed, here and not at each place where an index is dropped.
 impl Drop for Index {
     fn drop(self) {
         let Index {
@@ -66,7 +66,7 @@ impl Drop for Index {
 }
 
 impl Index {
-    /// That of no definitions. It takes no memory.
+    /// The index of the empty list. It takes no memory.
     pub fn new(alloc: Global) -> Index
         ensures { IsIndexOf [] result }
     {
@@ -76,8 +76,8 @@ impl Index {
         }
     }
 
-    /// That of a list.
-    pub fn of(alloc: Global, list: &[Listed]) -> Result<Index, AllocError>
+    /// The index of a list.
+    pub fn of(alloc: Global, list: &[NumberedDefinition]) -> Result<Index, AllocError>
         ensures { IfOk result (λ index. IsIndexOf (definitions_of (map listed_view list.now)) index) }
     {
         let mut index = Index::new(alloc);
@@ -85,11 +85,11 @@ impl Index {
         Ok(index)
     }
 
-    /// Files what the list has from that position on, after what it has before.
+    /// Files the entries of the list from that position on, after those before it.
     pub fn file_rest(
         &mut self,
         alloc: Global,
-        list: &[Listed],
+        list: &[NumberedDefinition],
         from: usize,
     ) -> Result<(), AllocError>
         ensures { OnOk result (FilesRest (definitions_of (map listed_view list.now)) from self.old self.new) }
@@ -100,8 +100,8 @@ impl Index {
         Ok(())
     }
 
-    /// Files the definition or the extension of a type, which has that position, after the others. Of other
-    /// definitions nothing is filed.
+    /// Files the definition or the extension of a type, which has that position, after the others. Other definitions
+    /// are not filed.
     pub fn file(
         &mut self,
         alloc: Global,
@@ -120,10 +120,10 @@ impl Index {
     }
 }
 
-/// Files a position under the name of a type, after those that are there.
+/// Files a position under the name of a type, after those already there.
 fn file_under(
     alloc: Global,
-    filed: &mut IndexMap<Name, Filed>,
+    filed: &mut IndexMap<Name, Positions>,
     position: usize,
     parts: &Parts<'_>,
 ) -> Result<(), AllocError>
@@ -138,14 +138,14 @@ fn file_under(
 /// Files the first position under the name of a type.
 fn file_first(
     alloc: Global,
-    filed: &mut IndexMap<Name, Filed>,
+    filed: &mut IndexMap<Name, Positions>,
     position: usize,
     parts: &Parts<'_>,
 ) -> Result<(), AllocError>
     requires { get (same_text name_text) filed.old parts.now.name.now ≡ None }
     ensures { OnOk result (FilesUnder position (parts_view parts.now) filed.old.entries filed.new.entries) }
 {
-    let first = Filed {
+    let first = Positions {
         kind: parts.kind,
         first: position,
         others: Vec::new(alloc),

@@ -2,7 +2,7 @@
 use Rattle.std.proofs.Common.{◌≡◌, ℕ, [], ◌++◌, refl}
 use Rattle.std.proofs.lemmas.List.{append-nil}
 use Rattle.schema_fold.proofs.in_components.Places.{not_in_nil}
-use Rattle.schema_fold.specs.Listed.{numbered}
+use Rattle.schema_fold.specs.NumberedDefinition.{numbered}
 use Rattle.schema_fold.specs.BuildErrors.{FoldingRules}
 use Rattle.schema_built_in.specs.Table.{built_in_definitions}
 use Rattle.schema_fold_roots.specs.ListFold.{parts_given, roots_from, root_faults}

@@ -7,7 +7,7 @@ use Rattle.graphql_names.specs.Placed.{Place}
 use Rattle.schema_fold.proofs.in_components.Places.{not_in_nil, Contains-first}
 use Rattle.schema_fold.specs.in_schema_types.SchemaTree.{SchemaTree}
 use Rattle.schema_fold.specs.in_schema_types.TypeParts.{type_extension_here}
-use Rattle.schema_fold.specs.Listed.{Definitions, Listed, definitions_of}
+use Rattle.schema_fold.specs.NumberedDefinition.{Definitions, NumberedDefinition, definitions_of}
 use Rattle.schema_built_in.specs.Table.{built_in_definitions}
 use Rattle.schema_fold.specs.BuildErrors.{BuildFault, Fails, FoldingRules, BreaksSomewhere, DirectiveDefinitionCollisionAt, DuplicateRootOperationIn}
 use Rattle.schema_fold.specs.Fold.{folded_directives}
@@ -60,7 +60,7 @@ unfolding built_in_definitions
 extends_none = refl
 
 -- what the calls fold and tell is what the list folds to
-pub folds_parts : (list built_in texts : List Listed) (schema : SchemaTree Place) (one two three four : List BuildFault)
+pub folds_parts : (list built_in texts : List NumberedDefinition) (schema : SchemaTree Place) (one two three four : List BuildFault)
     → TellsMisplaced (definitions_of built_in) (definitions_of texts) [] one
     → TellsRoots list one two
     → TellsDirectives (definitions_of built_in) (definitions_of texts) two three
@@ -81,7 +81,7 @@ folds_parts list built_in texts schema one two three four misplaced roots direct
     )
 
 -- the same of the two parts of a list
-pub folds_list : {X : Type 0} (view : X → Listed) (xs : List X) (built_in : ℕ) (schema : SchemaTree Place) (faults : List BuildFault)
+pub folds_list : {X : Type 0} (view : X → NumberedDefinition) (xs : List X) (built_in : ℕ) (schema : SchemaTree Place) (faults : List BuildFault)
     → FoldsParts (map view xs) (map view (take built_in xs)) (map view (drop built_in xs)) schema faults → FoldsList (map view xs) built_in schema faults
 folds_list view xs built_in schema faults h first ds is many =
     let all : definitions_of (map view xs) ≡ built_in_definitions ++ ds = ap definitions_of is ∙ definitions_numbered first (built_in_definitions ++ ds) in
@@ -90,10 +90,10 @@ folds_list view xs built_in schema faults h first ds is many =
     (ap definitions_of (sym (drop-map view built_in xs)) ∙ sym (drop-map (λ l. l.definition) built_in (map view xs)) ∙ ap (drop built_in) all ∙ drop_at built_in_definitions ds built_in (sym many))
 
 -- the two parts together
-pub joined : {X : Type 0} (view : X → Listed) (xs front back : List X) (built_in : ℕ) → front ≡ take built_in xs → back ≡ drop built_in xs → map view front ++ map view back ≡ map view xs
+pub joined : {X : Type 0} (view : X → NumberedDefinition) (xs front back : List X) (built_in : ℕ) → front ≡ take built_in xs → back ≡ drop built_in xs → map view front ++ map view back ≡ map view xs
 joined view xs front back built_in f b = sym (map-append view front back) ∙ ap (map view) ((λ i. f i ++ b i) ∙ take-append-drop built_in xs)
 
-pub folds_split : {X : Type 0} (view : X → Listed) (xs front back : List X) (built_in : ℕ) → front ≡ take built_in xs → back ≡ drop built_in xs → (schema : SchemaTree Place) (faults : List BuildFault)
+pub folds_split : {X : Type 0} (view : X → NumberedDefinition) (xs front back : List X) (built_in : ℕ) → front ≡ take built_in xs → back ≡ drop built_in xs → (schema : SchemaTree Place) (faults : List BuildFault)
     → FoldsParts (map view xs) (map view front) (map view back) schema faults → FoldsList (map view xs) built_in schema faults
 folds_split view xs front back built_in f b schema faults h =
     folds_list view xs built_in schema faults

@@ -1,7 +1,7 @@
 //! What a whole list folds to, with its faults.
 ghost use Rattle.std.specs.Prelude.{◌≡◌, ◌≤◌, [], drop, length, map, IfOk};
 ghost use Rattle.schema_fold.specs.FaultView.{faults_of};
-ghost use Rattle.schema_fold.specs.Listed.{definitions_of};
+ghost use Rattle.schema_fold.specs.NumberedDefinition.{definitions_of};
 ghost use Rattle.schema_fold.specs.ListedView.{listed_view};
 ghost use Rattle.schema_fold_types.specs.in_fold_index.Index.{IsIndexOf};
 ghost use Rattle.schema_fold_lists.specs.FoldedView.{folded_view};
@@ -9,7 +9,7 @@ ghost use Rattle.schema_fold_lists.specs.ListBuilt.{FoldsList};
 
 use graphql_names::{Name, Node, SourceSpan};
 use indexmap::IndexMap;
-use schema_fold::{BuildError, ExtendedType, Listed, SchemaDefinition};
+use schema_fold::{BuildError, ExtendedType, NumberedDefinition, SchemaDefinition};
 use schema_fold_roots::{fold_directives, fold_schema};
 use schema_fold_types::{Index, fold_types, tell_misplaced};
 use std::alloc::{AllocError, Global};
@@ -23,11 +23,11 @@ pub struct Folded {
     pub types: IndexMap<Name, ExtendedType>,
 }
 
-/// Folds a list, of which the first `built_in` definitions are what is built in, and tells each rule that is broken. The
-/// index is that of the others.
+/// Folds a list, whose first `built_in` definitions are what is built in, and tells each rule that is broken. The index
+/// is that of the other definitions.
 pub fn fold_list(
     alloc: Global,
-    list: &[Listed],
+    list: &[NumberedDefinition],
     built_in: usize,
     index: &Index,
     faults: &mut Vec<(Option<SourceSpan>, BuildError)>,

@@ -1,7 +1,7 @@
 //! What a whole list of definitions folds to, and all that is told of it: the parts of the fold, put together.
 //!
 //! For the layer above: `fold_list` folds a list with what is built in at its front; `specs/ListBuilt.antt` says what it
-//! gives, over the definitions of the fold (`schema_fold`).
+//! returns, by the definitions of the fold (`schema_fold`).
 #![tactic(auto)]
 
 mod fold;

@@ -16,15 +16,15 @@ use Rattle.schema_components.specs.Names.{Entries}
 use Rattle.schema_components.proofs.Firsts.{has_name-push, kept_seen, kept_new}
 use Rattle.schema_fold.specs.Components.{keyed_firsts}
 use Rattle.schema_fold.specs.Fold.{chosen_directive, folded_directives}
-use Rattle.schema_fold.specs.Listed.{Definitions, directive_here, directive_name, directives_in, definitions_of}
+use Rattle.schema_fold.specs.NumberedDefinition.{Definitions, directive_here, directive_name, directives_in, definitions_of}
 use Rattle.schema_fold.specs.ListedView.{listed_view}
-use Rattle.schema_fold.specs.declared.listed.Listed.{Listed as RustListed}
+use Rattle.schema_fold.specs.declared.numbered_definition.NumberedDefinition.{NumberedDefinition as RustNumberedDefinition}
 use Rattle.schema_fold_roots.specs.DirectiveFold.{Directive, chosen_of, chosen_firsts, Chooses}
 use Rattle.schema_fold_roots.specs.DirectivesView.{directive_view}
 use Rattle.schema_fold_roots.proofs.Named.{named}
 
 -- the definitions of one more of a list
-pub definitions_more : (xs : List RustListed) (i : ℕ) (d : RustListed) → i < length xs
+pub definitions_more : (xs : List RustNumberedDefinition) (i : ℕ) (d : RustNumberedDefinition) → i < length xs
     → definitions_of (map listed_view (take (i + 1) xs)) ≡ definitions_of (map listed_view (take i xs)) ++ definition_tree (get_or xs i d).definition ∷ []
 definitions_more xs i d h = ap definitions_of (map_more listed_view xs i d h) ∙ map-append (λ l. l.definition) (map listed_view (take i xs)) (listed_view (get_or xs i d) ∷ [])
 
@@ -32,7 +32,7 @@ pub directives_append : (xs ys : Definitions) → directives_in (xs ++ ys) ≡ d
 directives_append xs ys = flat_map-append (λ d. option_to_list (directive_here d)) xs ys
 
 -- the directives of one more of a list
-pub directives_more : (xs : List RustListed) (i : ℕ) (x : RustListed) (o : Option Directive) → i < length xs → x ≡ get_or xs i x → o ≡ directive_here (definition_tree x.definition)
+pub directives_more : (xs : List RustNumberedDefinition) (i : ℕ) (x : RustNumberedDefinition) (o : Option Directive) → i < length xs → x ≡ get_or xs i x → o ≡ directive_here (definition_tree x.definition)
     → directives_in (definitions_of (map listed_view (take (i + 1) xs))) ≡ directives_in (definitions_of (map listed_view (take i xs))) ++ (option_to_list o ++ [])
 directives_more xs i x o h is here =
     let before = definitions_of (map listed_view (take i xs)) in

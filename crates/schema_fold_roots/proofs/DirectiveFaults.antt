@@ -9,7 +9,7 @@ use Rattle.schema_fold.specs.in_definitions.DefinitionTree.{DefinitionTree}
 use Rattle.schema_fold.specs.in_definitions.Queries.{definition_place}
 use Rattle.schema_components.specs.Lists.{each_place, each_place_after, has_name}
 use Rattle.schema_components.proofs.Places.{not_in_nil, found_at, given_at, AtSomePlace-map, only, is_only}
-use Rattle.schema_fold.specs.Listed.{Definitions, directive_here, directive_name, directives_in}
+use Rattle.schema_fold.specs.NumberedDefinition.{Definitions, directive_here, directive_name, directives_in}
 use Rattle.schema_fold.specs.BuildErrors.{BuildFault, DirectiveDefinitionCollision, DirectiveDefinitionCollisionAt, BreaksSomewhere}
 use Rattle.schema_fold_roots.specs.DirectiveFold.{Directive, directive_fault, directive_faults, TellsDirectives}
 use Rattle.schema_fold_roots.proofs.Gathering.{flat_map-push}

@@ -12,7 +12,7 @@ use Rattle.schema_fold.specs.in_definitions.DefinitionTree.{root_tree}
 use Rattle.schema_components.specs.Given.{Given, ExtensionTree}
 use Rattle.schema_components.specs.declared.component.Component.{Component}
 use Rattle.schema_fold.specs.Components.{all_given}
-use Rattle.schema_fold.specs.Listed.{Listed}
+use Rattle.schema_fold.specs.NumberedDefinition.{NumberedDefinition}
 use Rattle.schema_fold.specs.PartsView.{itself, given_contents}
 use Rattle.schema_fold.proofs.Collecting.{added_grown}
 use Rattle.schema_fold.specs.SchemaFold.{Root, extends_schema}
@@ -42,7 +42,7 @@ pub collects_then : (a b c : AllOfSchema) (xs ys : List Parts) → CollectsParts
 collects_then a b c xs ys first second gs is = second (gs ++ xs) (first gs is) ∙ ap all_from (append_assoc gs xs ys)
 
 -- a turn of the loop over extensions
-pub collects_more : (a b c : AllOfSchema) (ls : List Listed) (l : Listed) → CollectsParts a (flat_map extends_schema ls) b → CollectsParts b (extends_schema l) c → CollectsParts a (flat_map extends_schema (ls ++ l ∷ [])) c
+pub collects_more : (a b c : AllOfSchema) (ls : List NumberedDefinition) (l : NumberedDefinition) → CollectsParts a (flat_map extends_schema ls) b → CollectsParts b (extends_schema l) c → CollectsParts a (flat_map extends_schema (ls ++ l ∷ [])) c
 collects_more a b c ls l first second gs is = collects_then a b c (flat_map extends_schema ls) (extends_schema l) first second gs is ∙ ap (λ m. all_from (gs ++ m)) (sym (flat_map-push extends_schema ls l))
 
 -- three lists behind one, as what was given

@@ -4,7 +4,7 @@ use Rattle.std.specs.List.{find}
 use Rattle.std.specs.Option.{option_map}
 use Rattle.std.proofs.lemmas.List.{append-nil}
 use Rattle.graphql_names.specs.Placed.{Place, Text}
-use Rattle.schema_components.specs.in_values.OperationQueries.{operation_keyword}
+use Rattle.schema_components.specs.in_operations.OperationQueries.{operation_keyword}
 use Rattle.tree_directives.specs.declared.operation_type.OperationType.{OperationType}
 use Rattle.tree_directives.specs.declared.operation_type.OperationType.TheVariants as operation
 use Rattle.schema_components.specs.Lists.{has_name}

@@ -8,7 +8,7 @@ use Rattle.schema_fold.specs.in_definitions.DefinitionTree.{DefinitionTree}
 use Rattle.schema_components.specs.Lists.{each_place_after}
 use Rattle.schema_fold.specs.in_schema_types.TypeParts.{TypeDefinition, type_here}
 use Rattle.schema_fold.specs.in_schema_types.declared.type_kind.TypeKind.{TypeKind}
-use Rattle.schema_fold.specs.Listed.{Definitions, listed_after, numbered, type_name, types_in, definitions_of}
+use Rattle.schema_fold.specs.NumberedDefinition.{Definitions, listed_after, numbered, type_name, types_in, definitions_of}
 use Rattle.schema_fold_roots.specs.KindNamed.{kind_here, kind_named}
 
 numbered_after : (first : ℕ) (before ds : Definitions) → definitions_of (each_place_after (λ b d. listed_after first b d ∷ []) before ds) ≡ ds

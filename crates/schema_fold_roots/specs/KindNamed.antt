@@ -6,11 +6,11 @@ use Rattle.graphql_names.specs.Placed.{Place}
 use Rattle.schema_fold.specs.in_definitions.DefinitionTree.{DefinitionTree}
 use Rattle.schema_fold.specs.in_schema_types.TypeParts.{type_here}
 use Rattle.schema_fold.specs.in_schema_types.declared.type_kind.TypeKind.{TypeKind}
-use Rattle.schema_fold.specs.Listed.{Definitions, type_name, type_named}
+use Rattle.schema_fold.specs.NumberedDefinition.{Definitions, type_name, type_named}
 
 abbrev pub kind_named : List ℕ → Definitions → Option TypeKind
 kind_named n ds = option_map (λ t. t.parts.kind) (type_named n ds)
 
--- the kind of the type that is defined here, if it has the name
+-- the kind of the type that is defined here, if one is and it has the name
 abbrev pub kind_here : List ℕ → DefinitionTree Place → Option TypeKind
 kind_here n d = option_map_or (λ t. if bytes_eq n (type_name t) then Some t.parts.kind else None) (type_here d) None

@@ -1,4 +1,4 @@
--- Private: leads to `folded_schema` and `DuplicateRootOperationIn`. The schema definition of a list whose extensions have their numbers, and the faults of its roots.
+-- Private: leads to `folded_schema` and `DuplicateRootOperationIn`. The schema definition of a list with numbered extensions, and the faults of its roots.
 use Rattle.std.specs.Prelude.{◌≡◌, ◌↔◌, ◌⊎◌, ℕ, List, [], ◌∷◌, ◌++◌, map, Option, None, if◌then◌else◌, Contains, is_some, slice_get}
 use Rattle.std.specs.List.{flat_map}
 use Rattle.graphql_names.specs.Placed.{Place, Text}
@@ -8,7 +8,7 @@ use Rattle.schema_components.specs.Lists.{repeats}
 use Rattle.schema_components.specs.Given.{Given}
 use Rattle.schema_components.specs.Applied.{Applied}
 use Rattle.schema_fold.specs.in_schema_types.SchemaTree.{SchemaRoots}
-use Rattle.schema_fold.specs.Listed.{Definitions, Listed, numbered, definitions_of}
+use Rattle.schema_fold.specs.NumberedDefinition.{Definitions, NumberedDefinition, numbered, definitions_of}
 use Rattle.schema_fold.specs.Components.{all_given}
 use Rattle.schema_fold.specs.SchemaFold.{Root, schema_base, schema_is_defined, implicit_roots, extends_schema, root_key, root_in, folded_schema}
 use Rattle.schema_fold.specs.BuildErrors.{BuildFault, DuplicateRootOperation, DuplicateRootOperationIn}
@@ -16,12 +16,12 @@ use Rattle.schema_fold.specs.BuildErrors.{BuildFault, DuplicateRootOperation, Du
 abbrev pub Parts : Type 0
 Parts = Given Place (SchemaParts Place)
 
--- all parts of the schema definition: `schema_parts_given` of a list with its numbers
-abbrev pub parts_given : List Listed → List Parts
+-- all parts of the schema: `schema_parts_given` for a list with numbered extensions
+abbrev pub parts_given : List NumberedDefinition → List Parts
 parts_given list = record { extension = None; it = (schema_base (definitions_of list)).parts } ∷ (if schema_is_defined (definitions_of list) then flat_map extends_schema list else [])
 
--- the same without a schema definition: the implicit roots and, where there is one, the schema extensions
-abbrev pub implicit_parts : List Listed → List Parts
+-- the same for a list without a schema definition: the implicit roots and, if there are any, the schema extensions
+abbrev pub implicit_parts : List NumberedDefinition → List Parts
 implicit_parts list = record { extension = None; it = record { directives = []; roots = implicit_roots (definitions_of list) } } ∷ (if is_some (slice_get (implicit_roots (definitions_of list)) 0) then flat_map extends_schema list else [])
 
 -- the directives and the roots of some parts, repeated roots too
@@ -42,22 +42,22 @@ schema_from place description gs = record {
   subscription = root_in operation.Subscription (roots_from gs);
 }
 
--- the schema definition of a list: `folded_schema` of a list with its numbers
-abbrev pub schema_of : List Listed → SchemaRoots Place
+-- the schema definition of a list: `folded_schema` for a list with numbered extensions
+abbrev pub schema_of : List NumberedDefinition → SchemaRoots Place
 schema_of list = schema_from (schema_base (definitions_of list)).place (schema_base (definitions_of list)).description (parts_given list)
 
--- a root behind another one of its operation, and what is told of it
+-- the fault of a root after another one for the same operation
 abbrev pub root_fault : Given Place Root → BuildFault
 root_fault g = record { place = g.it.place; breach = DuplicateRootOperation g.it.it.operation_type }
 
 abbrev pub root_faults : List (Given Place Root) → List BuildFault
 root_faults gs = map root_fault (repeats root_key gs)
 
--- where the list is that of some definitions with their numbers, this is what a schema has of its schema definition
-abbrev pub IsFoldOf : List Listed → SchemaRoots Place → Type 0
+-- if the list is that of some definitions, numbered from `first`, this is the schema definition that they fold to
+abbrev pub IsFoldOf : List NumberedDefinition → SchemaRoots Place → Type 0
 IsFoldOf list s = (first : ℕ) (ds : Definitions) → list ≡ numbered first ds → s ≡ folded_schema first ds
 
--- the faults that are told more are those of the second roots of the list
-abbrev pub TellsRoots : List Listed → List BuildFault → List BuildFault → Type 0
+-- the faults that are added are those of repeated roots in the list
+abbrev pub TellsRoots : List NumberedDefinition → List BuildFault → List BuildFault → Type 0
 TellsRoots list old new = (first : ℕ) (built_in texts : Definitions) → list ≡ numbered first (built_in ++ texts)
     → (f : BuildFault) → Contains new f ↔ (Contains old f ⊎ DuplicateRootOperationIn built_in texts first f)

@@ -22,7 +22,7 @@ use Rattle.schema_fold_roots.specs.declared.roots.Roots.{Roots}
 abbrev pub schema_giver : Node SchemaDefinition → SchemaGiver
 schema_giver n = record { place = place n; description = option_map text_tree (content n).description; parts = schema_parts (content n) }
 
--- roots as what was given
+-- roots as contracts see them
 abbrev pub roots_given_by : List (Component (OperationType × Name)) → List (Given Place Root)
 roots_given_by cs = map (component_tree root_tree) cs
 

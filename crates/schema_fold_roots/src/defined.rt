@@ -2,17 +2,17 @@
 ghost use Rattle.std.specs.Prelude.{◌≡◌, map, option_copied};
 ghost use Rattle.std.specs.Option.{option_map};
 ghost use Rattle.schema_fold.specs.in_definitions.DefinitionTree.{definition_tree, schema_extension_parts};
-ghost use Rattle.schema_fold.specs.Listed.{definitions_of};
+ghost use Rattle.schema_fold.specs.NumberedDefinition.{definitions_of};
 ghost use Rattle.schema_fold.specs.SchemaFold.{schema_here, schema_extension_here, schema_definition_in, is_object_in};
 ghost use Rattle.schema_fold.specs.ListedView.{listed_view};
 ghost use Rattle.schema_fold_roots.specs.RootsView.{schema_giver};
 ghost use Rattle.schema_fold_roots.specs.KindNamed.{kind_here, kind_named};
 
 use graphql_names::Node;
-use schema_fold::{Definition, Listed, TypeKind, type_definition};
+use schema_fold::{Definition, NumberedDefinition, TypeKind, type_definition};
 use tree_input_types::{SchemaDefinition, SchemaExtension};
 
-/// The schema definition, if it is one.
+/// The schema definition, if the definition is one.
 fn schema_definition(d: &Definition) -> Option<&Node<SchemaDefinition>>
     ensures { option_map schema_giver (option_copied result) ≡ schema_here (definition_tree d.now) }
 {
@@ -22,7 +22,7 @@ fn schema_definition(d: &Definition) -> Option<&Node<SchemaDefinition>>
     }
 }
 
-/// The schema extension, if it is one.
+/// The schema extension, if the definition is one.
 pub(crate) fn schema_extension(d: &Definition) -> Option<&SchemaExtension>
     ensures { option_map schema_extension_parts (option_copied result) ≡ schema_extension_here (definition_tree d.now) }
 {
@@ -33,7 +33,7 @@ pub(crate) fn schema_extension(d: &Definition) -> Option<&SchemaExtension>
 }
 
 /// The first schema definition of the list, if there is one.
-pub(crate) fn first_schema(list: &[Listed]) -> Option<&Node<SchemaDefinition>>
+pub(crate) fn first_schema(list: &[NumberedDefinition]) -> Option<&Node<SchemaDefinition>>
     ensures { option_map schema_giver (option_copied result) ≡ schema_definition_in (definitions_of (map listed_view list.now)) }
 {
     for listed in list {
@@ -44,8 +44,8 @@ pub(crate) fn first_schema(list: &[Listed]) -> Option<&Node<SchemaDefinition>>
     None
 }
 
-/// Whether an object of that name is defined: a type is given by the first definition of its name.
-pub(crate) fn is_object(list: &[Listed], name: &str) -> bool
+/// Whether the type of that name is an object: a type is given by the first definition of its name.
+pub(crate) fn is_object(list: &[NumberedDefinition], name: &str) -> bool
     ensures { result ≡ is_object_in (definitions_of (map listed_view list.now)) name.now }
 {
     match kind_named(list, name) {
@@ -55,7 +55,7 @@ pub(crate) fn is_object(list: &[Listed], name: &str) -> bool
 }
 
 /// The kind of the type of that name, if it is defined.
-fn kind_named(list: &[Listed], name: &str) -> Option<TypeKind>
+fn kind_named(list: &[NumberedDefinition], name: &str) -> Option<TypeKind>
     ensures { result ≡ kind_named name.now (definitions_of (map listed_view list.now)) }
 {
     for listed in list {

@@ -5,7 +5,7 @@ ghost use Rattle.indexmap.specs.IndexMap.{get};
 ghost use Rattle.schema_components.specs.Names.{same_text};
 ghost use Rattle.schema_fold.specs.in_schema_types.TypeView.{name_text};
 ghost use Rattle.schema_fold.specs.in_definitions.DefinitionTree.{definition_tree};
-ghost use Rattle.schema_fold.specs.Listed.{directive_here, directive_name, directives_in, definitions_of};
+ghost use Rattle.schema_fold.specs.NumberedDefinition.{directive_here, directive_name, directives_in, definitions_of};
 ghost use Rattle.schema_fold.specs.Components.{keyed_firsts};
 ghost use Rattle.schema_fold.specs.Fold.{folded_directives};
 ghost use Rattle.schema_fold.specs.FaultView.{faults_of};
@@ -13,11 +13,11 @@ ghost use Rattle.schema_fold.specs.BuildErrors.{DirectiveDefinitionCollision};
 ghost use Rattle.schema_fold.specs.ListedView.{listed_view};
 ghost use Rattle.schema_fold_roots.specs.DirectiveFold.{directive_faults, chosen_of, chosen_firsts, Chooses, TellsDirectives};
 ghost use Rattle.schema_fold_roots.specs.DirectivesView.{directive_view, entries_view};
-ghost use Rattle.schema_fold_roots.specs.Steps.{directives_listed, KeepsDirective};
+ghost use Rattle.schema_fold_roots.specs.ListFoldSteps.{directives_listed, KeepsDirective};
 
 use graphql_names::{Name, Node, SourceSpan};
 use indexmap::IndexMap;
-use schema_fold::{BuildError, Definition, Listed, insert_new, tell};
+use schema_fold::{BuildError, Definition, NumberedDefinition, insert_new, tell};
 use std::alloc::{AllocError, Global};
 use tree_directives::DirectiveDefinition;
 
@@ -25,8 +25,8 @@ use tree_directives::DirectiveDefinition;
 /// a built-in one of its name, and the other built-in ones. Tells each that is not the first of its name in the texts.
 pub fn fold_directives(
     alloc: Global,
-    built_in: &[Listed],
-    texts: &[Listed],
+    built_in: &[NumberedDefinition],
+    texts: &[NumberedDefinition],
     faults: &mut Vec<(Option<SourceSpan>, BuildError)>,
 ) -> Result<IndexMap<Name, Node<DirectiveDefinition>>, AllocError>
     ensures folded { IfOk result (λ m. entries_view m ≡ folded_directives (definitions_of (map listed_view built_in.now)) (definitions_of (map listed_view texts.now))) }
@@ -38,12 +38,12 @@ pub fn fold_directives(
 }
 
 /// Chooses a definition for each name of what is built in and of the texts.
-// It owns the map of what is chosen, its caller that of the texts: a function with two owned maps costs more to prove.
+// It owns the map of chosen definitions, its caller the map of the texts: a function with two owned maps costs more to prove.
 fn choose_directives(
     alloc: Global,
     own: &IndexMap<Name, Node<DirectiveDefinition>>,
-    built_in: &[Listed],
-    texts: &[Listed],
+    built_in: &[NumberedDefinition],
+    texts: &[NumberedDefinition],
 ) -> Result<IndexMap<Name, Node<DirectiveDefinition>>, AllocError>
     ensures { IfOk result (λ m. entries_view m ≡ chosen_firsts (entries_view own.now) (directives_listed built_in.now ++ directives_listed texts.now)) }
 {
@@ -53,7 +53,7 @@ fn choose_directives(
     Ok(chosen)
 }
 
-/// The definition of a directive, if it is one.
+/// The definition of a directive, if the definition is one.
 fn directive_definition(d: &Definition) -> Option<&Node<DirectiveDefinition>>
     ensures { option_map directive_view (option_copied result) ≡ directive_here (definition_tree d.now) }
 {
@@ -66,7 +66,7 @@ fn directive_definition(d: &Definition) -> Option<&Node<DirectiveDefinition>>
 /// Keeps the first definition of each name, and tells the others.
 fn keep_directives(
     alloc: Global,
-    list: &[Listed],
+    list: &[NumberedDefinition],
     faults: &mut Vec<(Option<SourceSpan>, BuildError)>,
 ) -> Result<IndexMap<Name, Node<DirectiveDefinition>>, AllocError>
     ensures kept { IfOk result (λ m. entries_view m ≡ keyed_firsts directive_name (directives_in (definitions_of (map listed_view list.now)))) }
@@ -129,7 +129,7 @@ fn insert_directive(
 /// Chooses a definition for each new name of the list.
 fn choose_all(
     own: &IndexMap<Name, Node<DirectiveDefinition>>,
-    list: &[Listed],
+    list: &[NumberedDefinition],
     chosen: &mut IndexMap<Name, Node<DirectiveDefinition>>,
 ) -> Result<(), AllocError>
     ensures { OnOk result (Chooses (entries_view own.now) (directives_listed list.now) (entries_view chosen.old) (entries_view chosen.new)) }

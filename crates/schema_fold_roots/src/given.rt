@@ -1,28 +1,28 @@
-//! All that the schema definition is given, repeated roots too.
+//! All directives and roots that are given to the schema, repeated roots too.
 ghost use Rattle.std.specs.Prelude.{◌≡◌, ◌++◌, [], map, OnOk};
 ghost use Rattle.std.specs.List.{flat_map};
 ghost use Rattle.schema_fold.specs.ListedView.{listed_view};
 ghost use Rattle.schema_fold.specs.SchemaFold.{extends_schema};
 ghost use Rattle.schema_fold_roots.specs.RootFold.{all_from, all_and, CollectsParts};
 ghost use Rattle.schema_fold_roots.specs.RootsView.{all_of_schema};
-ghost use Rattle.schema_fold_roots.specs.Steps.{parts_at};
+ghost use Rattle.schema_fold_roots.specs.ListFoldSteps.{parts_at};
 
 use crate::defined::schema_extension;
 use graphql_names::Node;
 use schema_components::{Component, ComponentOrigin};
-use schema_fold::{Listed, add_components};
+use schema_fold::{NumberedDefinition, add_components};
 use std::alloc::{AllocError, Global};
 use tree_directives::{Directive, DirectiveList};
 use tree_literals::NamedType;
 use tree_operations::OperationType;
 
-/// All that the schema definition is given, in order, repeated roots too.
+/// All directives and roots that are given to the schema, in order, repeated roots too.
 pub(crate) struct SchemaComponents {
     pub(crate) directives: Vec<Component<Directive>>,
     pub(crate) roots: Vec<Component<(OperationType, NamedType)>>,
 }
 
-/// Lets both classes go, here and not wherever what is given goes.
+/// Drops both classes, here and not at each place where a `SchemaComponents` is dropped.
 impl Drop for SchemaComponents {
     fn drop(self) {
         let SchemaComponents {
@@ -33,7 +33,7 @@ impl Drop for SchemaComponents {
 }
 
 impl SchemaComponents {
-    /// Nothing.
+    /// Without components.
     pub(crate) fn new(alloc: Global) -> SchemaComponents
         ensures { all_of_schema result ≡ all_from [] }
     {
@@ -43,7 +43,7 @@ impl SchemaComponents {
         }
     }
 
-    /// Adds these directives and roots, from that origin.
+    /// Adds these directives and roots, with that origin.
     pub(crate) fn add(
         &mut self,
         origin: ComponentOrigin,
@@ -57,7 +57,7 @@ impl SchemaComponents {
     }
 
     /// Adds what each schema extension of the list gives, in order.
-    pub(crate) fn add_extensions(&mut self, list: &[Listed]) -> Result<(), AllocError>
+    pub(crate) fn add_extensions(&mut self, list: &[NumberedDefinition]) -> Result<(), AllocError>
         ensures { OnOk result (CollectsParts (all_of_schema self.old) (flat_map extends_schema (map listed_view list.now)) (all_of_schema self.new)) }
     {
         for listed in list {

@@ -6,7 +6,7 @@ ghost use Rattle.schema_fold.specs.FaultView.{faults_of};
 ghost use Rattle.schema_fold_roots.specs.ListFold.{root_faults};
 ghost use Rattle.schema_fold_roots.specs.RootFold.{root_for, with_root, first_roots};
 ghost use Rattle.schema_fold_roots.specs.RootsView.{root_names, roots_given_by};
-ghost use Rattle.schema_fold_roots.specs.Steps.{KeepsRootGiven};
+ghost use Rattle.schema_fold_roots.specs.ListFoldSteps.{KeepsRootGiven};
 
 use graphql_names::SourceSpan;
 use schema_components::{Component, ComponentName};
@@ -47,7 +47,7 @@ impl Roots {
     }
 }
 
-/// Keeps the first root of each operation, and tells the others.
+/// Keeps the first root for each operation, and tells the others.
 pub(crate) fn keep_roots(
     all: &[Component<(OperationType, NamedType)>],
     faults: &mut Vec<(Option<SourceSpan>, BuildError)>,

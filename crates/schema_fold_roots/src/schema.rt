@@ -9,7 +9,7 @@ ghost use Rattle.schema_fold.specs.ListedView.{listed_view};
 ghost use Rattle.schema_fold_roots.specs.ListFold.{parts_given, roots_from, implicit_parts, schema_from, schema_of, root_faults, IsFoldOf, TellsRoots};
 ghost use Rattle.schema_fold_roots.specs.RootFold.{all_from, made_from};
 ghost use Rattle.schema_fold_roots.specs.RootsView.{all_of_schema};
-ghost use Rattle.schema_fold_roots.specs.Steps.{defined_parts, defined_schema};
+ghost use Rattle.schema_fold_roots.specs.ListFoldSteps.{defined_parts, defined_schema};
 
 use crate::defined::first_schema;
 use crate::given::SchemaComponents;
@@ -17,17 +17,17 @@ use crate::implicit::add_implicit_roots;
 use crate::roots::keep_roots;
 use graphql_names::{Node, NodeStr, SourceSpan};
 use schema_components::{ComponentOrigin, DirectiveList};
-use schema_fold::{BuildError, Listed, SchemaDefinition, node_at};
+use schema_fold::{BuildError, NumberedDefinition, SchemaDefinition, node_at};
 use std::alloc::{AllocError, Global};
 use std::mem;
 use tree_input_types::SchemaDefinition as SchemaNode;
 use tree_type_members::clone_description;
 
-/// Folds the schema definition (section 3.3): the first one or, where there is none, the implicit roots; and then
-/// each schema extension, where they apply. Tells each root that is not the first of its operation.
+/// Folds the schema definition (section 3.3): the first one or, if there is none, the implicit roots; then each schema
+/// extension, if the schema is defined. Tells each root that is not the first for its operation.
 pub fn fold_schema(
     alloc: Global,
-    list: &[Listed],
+    list: &[NumberedDefinition],
     faults: &mut Vec<(Option<SourceSpan>, BuildError)>,
 ) -> Result<Node<SchemaDefinition>, AllocError>
     ensures folded { IfOk result (λ n. schema_roots n ≡ schema_of (map listed_view list.now)) }
@@ -35,7 +35,7 @@ pub fn fold_schema(
     ensures is_fold { IfOk result (λ n. IsFoldOf (map listed_view list.now) (schema_roots n)) }
     ensures tells { OnOk result (TellsRoots (map listed_view list.now) (faults_of faults.old) (faults_of faults.new)) }
 {
-    // A second one is told where definitions collide, and gives nothing.
+    // A second one is told by the rule on collisions, and gives nothing.
     match first_schema(list) {
         None => fold_implicit(alloc, list, faults),
         Some(defined) => fold_defined(alloc, defined, list, faults),
@@ -46,7 +46,7 @@ pub fn fold_schema(
 fn fold_defined(
     alloc: Global,
     defined: &Node<SchemaNode>,
-    list: &[Listed],
+    list: &[NumberedDefinition],
     faults: &mut Vec<(Option<SourceSpan>, BuildError)>,
 ) -> Result<Node<SchemaDefinition>, AllocError>
     ensures folded { IfOk result (λ n. schema_roots n ≡ defined_schema defined.now list.now) }
@@ -57,10 +57,10 @@ fn fold_defined(
     make_schema(alloc, defined.location(), description, &mut all, faults)
 }
 
-/// Folds the implicit roots and, where there is one, each schema extension of the list.
+/// Folds the implicit roots and, if there are any, each schema extension of the list.
 fn fold_implicit(
     alloc: Global,
-    list: &[Listed],
+    list: &[NumberedDefinition],
     faults: &mut Vec<(Option<SourceSpan>, BuildError)>,
 ) -> Result<Node<SchemaDefinition>, AllocError>
     ensures folded { IfOk result (λ n. schema_roots n ≡ schema_from None None (implicit_parts (map listed_view list.now))) }
@@ -74,7 +74,7 @@ fn fold_implicit(
 fn collect_defined(
     alloc: Global,
     defined: &SchemaNode,
-    list: &[Listed],
+    list: &[NumberedDefinition],
 ) -> Result<SchemaComponents, AllocError>
     ensures { IfOk result (λ all. all_of_schema all ≡ all_from (defined_parts defined.now list.now)) }
 {
@@ -88,13 +88,16 @@ fn collect_defined(
     Ok(all)
 }
 
-/// The implicit roots and, where there is one, what each schema extension of the list gives.
-fn collect_implicit(alloc: Global, list: &[Listed]) -> Result<SchemaComponents, AllocError>
+/// The implicit roots and, if there are any, what each schema extension of the list gives.
+fn collect_implicit(
+    alloc: Global,
+    list: &[NumberedDefinition],
+) -> Result<SchemaComponents, AllocError>
     ensures { IfOk result (λ all. all_of_schema all ≡ all_from (implicit_parts (map listed_view list.now))) }
 {
     let mut all = SchemaComponents::new(alloc);
     add_implicit_roots(alloc, list, &mut all.roots)?;
-    // Then the schema is not defined: its extensions are told as orphans, and give nothing.
+    // If so, the schema is not defined: its extensions are told as orphans, and give nothing.
     if all.roots.is_empty() {
         return Ok(all);
     }
@@ -102,7 +105,7 @@ fn collect_implicit(alloc: Global, list: &[Listed]) -> Result<SchemaComponents, 
     Ok(all)
 }
 
-/// The schema definition at that place that is made of these: the first root of each operation, and all applied
+/// The schema definition at that place that is made from these: the first root for each operation, and all applied
 /// directives, which are taken.
 fn make_schema(
     alloc: Global,

@@ -11,8 +11,8 @@ use Rattle.graphql_names.specs.Placed.{Place}
 use Rattle.schema_fold_index.specs.in_definitions.DefinitionTree.{DefinitionTree}
 use Rattle.schema_fold_index.specs.in_components.Lists.{has_name}
 use Rattle.schema_fold_index.specs.in_schema_types.TypeParts.{TypeDefinition, type_here}
-use Rattle.schema_fold_index.specs.in_fold.Listed.{Definitions, type_name, types_in}
-use Rattle.schema_fold_index.specs.declared.index.Filed.{Filed}
+use Rattle.schema_fold_index.specs.in_fold.NumberedDefinition.{Definitions, type_name, types_in}
+use Rattle.schema_fold_index.specs.declared.index.Positions.{Positions}
 use Rattle.schema_fold_index.specs.Index.{StandingParts, standing_name, parts_here, standing_after, standing_in_list, positions_named, positions_of, FiledEntries, AreFiled, is_filed_before}
 
 module _ (n : List ℕ) (i : ℕ) where
@@ -26,7 +26,7 @@ module _ (n : List ℕ) (i : ℕ) where
   abbrev standing_here : ℕ → Option (TypeDefinition Place) → List StandingParts
   standing_here place o = map (λ parts. record { position = place; parts = parts }) (option_to_list (option_map (λ t. t.parts) o))
 
-  filed_starts : (o : Option Filed) → option_map_or (λ f. nat_lt f.first i) o false ≡ starts_before (option_map_or positions_of o [])
+  filed_starts : (o : Option Positions) → option_map_or (λ f. nat_lt f.first i) o false ≡ starts_before (option_map_or positions_of o [])
   filed_starts None = refl
   filed_starts (Some f) = refl
 

@@ -5,10 +5,10 @@ use Rattle.graphql_names.specs.Placed.{Place}
 use Rattle.schema_fold_index.specs.in_definitions.DefinitionTree.{DefinitionTree}
 use Rattle.schema_fold_index.specs.in_components.Lists.{has_name}
 use Rattle.schema_fold_index.specs.in_schema_types.TypeParts.{type_here}
-use Rattle.schema_fold_index.specs.in_fold.Listed.{Definitions, type_name, type_named, types_in}
+use Rattle.schema_fold_index.specs.in_fold.NumberedDefinition.{Definitions, type_name, type_named, types_in}
 use Rattle.schema_fold_index.specs.in_fold.SchemaFold.{schema_here, schema_definition_in}
 use Rattle.schema_fold_index.specs.in_fold.BuildErrors.{SchemaDefinitionCollision, TypeDefinitionCollision}
-use Rattle.schema_fold_types.specs.Seen.{Seen, seen_of, kind_in, is_scalar_in, kind_seen, told_where, faults_at, executable_told, scalar_redefinition_told, definition_faults, faults_behind}
+use Rattle.schema_fold_types.specs.DefinedKinds.{DefinedKinds, seen_of, kind_in, is_scalar_in, kind_seen, told_where, faults_at, executable_told, scalar_redefinition_told, definition_faults, faults_behind}
 use Rattle.schema_fold_types.proofs.Named.{some_named}
 use Rattle.schema_fold_types.proofs.Seeing.{kind_in_is, some_map}
 
@@ -20,7 +20,7 @@ some_or (Some a) p = refl
 some_kind : (before : Definitions) (n : List ℕ) → is_some (kind_in (seen_of before) n) ≡ has_name type_name n (types_in before)
 some_kind before n = ap is_some (kind_in_is before n) ∙ some_map (type_named n before) ∙ some_named type_name n (types_in before)
 
-module _ (built_in : Seen) (schema : Bool) (defined : List ℕ → Bool) (before : Definitions) (schema_is : schema ≡ is_some (schema_definition_in before))
+module _ (built_in : DefinedKinds) (schema : Bool) (defined : List ℕ → Bool) (before : Definitions) (schema_is : schema ≡ is_some (schema_definition_in before))
     (defined_is : (n : List ℕ) → defined n ≡ has_name type_name n (types_in before)) where
   stands : (n : List ℕ) → (is_some (kind_in built_in n) || defined n) ≡ is_some (kind_seen built_in (seen_of before) n)
   stands n = ap (λ b. is_some (kind_in built_in n) || b) (defined_is n ∙ sym (some_kind before n)) ∙ sym (some_or (kind_in built_in n) (kind_in (seen_of before) n))

@@ -1,7 +1,7 @@
 -- The folding rules are those on positions, that on directive definitions, that on roots, and those on the components of types.
 use Rattle.std.proofs.Common.{◌⊎◌, ℕ, inl, inr}
 use Rattle.std.specs.Prelude.{◌↔◌}
-use Rattle.schema_fold_index.specs.in_fold.Listed.{Definitions}
+use Rattle.schema_fold_index.specs.in_fold.NumberedDefinition.{Definitions}
 use Rattle.schema_fold_index.specs.in_fold.BuildErrors as fails
 use Rattle.schema_fold_index.specs.in_fold.BuildErrors.{BuildFault, Fails, BreaksSomewhere, DirectiveDefinitionCollisionAt, DuplicateRootOperationIn}
 use Rattle.schema_fold_types.specs.TypeFaults as of_type

@@ -12,7 +12,7 @@ use Rattle.schema_fold_index.specs.in_schema_types.TypeParts.{TypeParts, TypeDef
 use Rattle.schema_fold_index.specs.in_fold.Components.{go_together, extension_here, keyed_firsts, field_key, value_key, input_key}
 use Rattle.schema_fold_index.specs.in_fold.Collected.{class_from, collected_from}
 use Rattle.schema_fold_index.specs.in_fold.Kept.{component_faults}
-use Rattle.schema_fold_index.specs.in_fold.Listed.{Listed, type_name, definitions_of}
+use Rattle.schema_fold_index.specs.in_fold.NumberedDefinition.{NumberedDefinition, type_name, definitions_of}
 use Rattle.schema_fold_index.specs.in_fold.Fold.{folded_type}
 use Rattle.schema_fold_index.specs.in_fold.BuildErrors.{BuildFault}
 use Rattle.schema_fold_types.specs.TypeFaults.{faults_of_type}
@@ -21,21 +21,21 @@ use Rattle.schema_fold_types.specs.Filing.{type_by, types_by, faults_by}
 use Rattle.schema_fold_index.proofs.Indexing.{extends_name, extensions_named}
 
 module _ (defined : TypeParts Place) where
-  abbrev named : List Listed → List Listed
+  abbrev named : List NumberedDefinition → List NumberedDefinition
   named list = extensions_named defined.name.it list
 
   -- what parts give to the type
-  abbrev given_by : Listed → Option (TypeParts Place) → List (Given Place (TypeParts Place))
+  abbrev given_by : NumberedDefinition → Option (TypeParts Place) → List (Given Place (TypeParts Place))
   given_by l o = option_map_or (λ parts. if go_together defined parts then record { extension = l.extension; it = parts } ∷ [] else []) o []
 
-  none_here : (l : Listed) (o : Option (TypeParts Place)) → option_map_or (λ parts. bytes_eq defined.name.it parts.name.it) o false ≡ false → given_by l o ≡ []
+  none_here : (l : NumberedDefinition) (o : Option (TypeParts Place)) → option_map_or (λ parts. bytes_eq defined.name.it parts.name.it) o false ≡ false → given_by l o ≡ []
   none_here l None other = refl
   none_here l (Some parts) other =
       let given : Given Place (TypeParts Place) = record { extension = l.extension; it = parts } in
       ap (λ b. if b && same_kind defined.kind parts.kind then given ∷ [] else []) other
 
   -- no definition of another name gives anything to the type
-  pub named_enough : (list : List Listed) → flat_map (extension_here defined) (named list) ≡ flat_map (extension_here defined) list
+  pub named_enough : (list : List NumberedDefinition) → flat_map (extension_here defined) (named list) ≡ flat_map (extension_here defined) list
   named_enough [] = refl
   named_enough (l ∷ ls) = by (extends_name defined.name.it l) refl (named_enough ls)
     where
@@ -45,7 +45,7 @@ module _ (defined : TypeParts Place) where
       by false e rest = rest ∙ ap (λ r. r ++ flat_map (extension_here defined) ls) (sym (none_here l (type_extension_here l.definition) e))
 
   -- where nothing is extended, nothing is given to the type
-  pub none_given : (list : List Listed) → ExtendsNone list → flat_map (extension_here defined) list ≡ []
+  pub none_given : (list : List NumberedDefinition) → ExtendsNone list → flat_map (extension_here defined) list ≡ []
   none_given [] none = refl
   none_given (l ∷ ls) none = by (type_extension_here l.definition) none (none_given ls)
     where
@@ -79,7 +79,7 @@ module _ (t : TypeDefinition Place) where
   abbrev faults_given : AllGiven → List BuildFault
   faults_given gs = component_faults t.parts.kind t.parts.name.it (collected_from (and_own gs))
 
-  module _ (extensions : List ℕ → List Listed) (list : List Listed) (is : (n : List ℕ) → extensions n ≡ extensions_named n list) where
+  module _ (extensions : List ℕ → List NumberedDefinition) (list : List NumberedDefinition) (is : (n : List ℕ) → extensions n ≡ extensions_named n list) where
     given : flat_map (extension_here t.parts) (extensions (type_name t)) ≡ flat_map (extension_here t.parts) list
     given = ap (flat_map (extension_here t.parts)) (is (type_name t)) ∙ named_enough t.parts list
 
@@ -89,7 +89,7 @@ module _ (t : TypeDefinition Place) where
     told_enough : faults_of_type (extensions (type_name t)) t ≡ faults_of_type list t
     told_enough = ap faults_given given
 
-  module _ (front list : List Listed) (none : ExtendsNone front) where
+  module _ (front list : List NumberedDefinition) (none : ExtendsNone front) where
     given_behind : flat_map (extension_here t.parts) list ≡ flat_map (extension_here t.parts) (front ++ list)
     given_behind = sym (flat_map-append (extension_here t.parts) front list ∙ ap (λ l. l ++ flat_map (extension_here t.parts) list) (none_given t.parts front none))
 
@@ -100,7 +100,7 @@ module _ (t : TypeDefinition Place) where
     pub told_behind : faults_of_type list t ≡ faults_of_type (front ++ list) t
     told_behind = ap faults_given given_behind
 
-module _ (extensions : List ℕ → List Listed) (list : List Listed) (is : (n : List ℕ) → extensions n ≡ extensions_named n list) where
+module _ (extensions : List ℕ → List NumberedDefinition) (list : List NumberedDefinition) (is : (n : List ℕ) → extensions n ≡ extensions_named n list) where
   -- the same types and faults as with the whole list
   pub types_enough : (ts : List (TypeDefinition Place)) → types_by extensions ts ≡ map (λ t. (type_name t, folded_type list t)) (firsts type_name ts)
   types_enough ts i = map (λ t. (type_name t, type_enough t extensions list is i)) (firsts type_name ts)

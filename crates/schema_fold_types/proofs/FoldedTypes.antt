@@ -8,7 +8,7 @@ use Rattle.schema_fold_index.specs.in_components.Lists.{firsts}
 use Rattle.schema_fold_index.specs.in_components.Names.{Entries}
 use Rattle.schema_fold_index.specs.in_schema_types.SchemaTree.{SchemaType}
 use Rattle.schema_fold_index.specs.in_schema_types.TypeParts.{type_here}
-use Rattle.schema_fold_index.specs.in_fold.Listed.{Definitions, Listed, numbered, type_name, types_in, definitions_of}
+use Rattle.schema_fold_index.specs.in_fold.NumberedDefinition.{Definitions, NumberedDefinition, numbered, type_name, types_in, definitions_of}
 use Rattle.schema_fold_index.specs.in_fold.Fold.{folded_type, folded_types}
 use Rattle.schema_fold_index.specs.in_fold.BuildErrors.{BuildFault}
 use Rattle.schema_fold_types.specs.TypeFaults.{faults_of_type, faults_of_types, FailsInType}
@@ -19,10 +19,10 @@ use Rattle.schema_fold_types.specs.ListTypes.{types_from, faults_from, ExtendsNo
 use Rattle.schema_fold_types.proofs.Filing.{type_behind, told_behind}
 
 -- the types and faults of a whole list
-abbrev types_of : List Listed → Entries (SchemaType Place)
+abbrev types_of : List NumberedDefinition → Entries (SchemaType Place)
 types_of list = map (λ t. (type_name t, folded_type list t)) (firsts type_name (types_in (definitions_of list)))
 
-abbrev faults_of : List Listed → List BuildFault
+abbrev faults_of : List NumberedDefinition → List BuildFault
 faults_of list = flat_map (faults_of_type list) (firsts type_name (types_in (definitions_of list)))
 
 types_numbered : (first : ℕ) (ds : Definitions) → types_of (numbered first ds) ≡ folded_types first ds
@@ -31,7 +31,7 @@ types_numbered first ds = ap (λ l. map (λ t. (type_name t, folded_type (number
 faults_numbered : (first : ℕ) (ds : Definitions) → faults_of (numbered first ds) ≡ faults_of_types first ds
 faults_numbered first ds = ap (λ l. flat_map (faults_of_type (numbered first ds)) (firsts type_name (types_in l))) (definitions_numbered first ds)
 
-module _ (built_in texts : List Listed) (none : ExtendsNone built_in) where
+module _ (built_in texts : List NumberedDefinition) (none : ExtendsNone built_in) where
   types_joined : types_in (definitions_of built_in) ++ types_in (definitions_of texts) ≡ types_in (definitions_of (built_in ++ texts))
   types_joined =
       sym (ap types_in (map-append (λ l. l.definition) built_in texts) ∙ flat_map-append (λ d. option_to_list (type_here d)) (definitions_of built_in) (definitions_of texts))
@@ -42,10 +42,10 @@ module _ (built_in texts : List Listed) (none : ExtendsNone built_in) where
   whole_faults : faults_from built_in texts ≡ faults_of (built_in ++ texts)
   whole_faults = λ i. flat_map (λ t. told_behind t built_in texts none i) (firsts type_name (types_joined i))
 
-pub folds_types : (built_in texts : List Listed) (types : Entries (SchemaType Place)) → types ≡ types_from built_in texts → FoldsTypes built_in texts types
+pub folds_types : (built_in texts : List NumberedDefinition) (types : Entries (SchemaType Place)) → types ≡ types_from built_in texts → FoldsTypes built_in texts types
 folds_types built_in texts types is none first ds e = is ∙ whole_types built_in texts none ∙ ap types_of e ∙ types_numbered first ds
 
-pub tells_types : (built_in texts : List Listed) (old new : List BuildFault) → new ≡ old ++ faults_from built_in texts → TellsTypes built_in texts old new
+pub tells_types : (built_in texts : List NumberedDefinition) (old new : List BuildFault) → new ≡ old ++ faults_from built_in texts → TellsTypes built_in texts old new
 tells_types built_in texts old new is none first before after e f =
     told_more old (faults_of_types first (before ++ after)) new f (FailsInType before after first f)
     (is ∙ ap (λ fs. old ++ fs) (whole_faults built_in texts none ∙ ap faults_of e ∙ faults_numbered first (before ++ after)))

@@ -14,7 +14,7 @@ use Rattle.schema_fold_index.specs.in_schema_types.SchemaTree.{SchemaType}
 use Rattle.schema_fold_index.specs.in_schema_types.TypeParts.{TypeDefinition, type_here}
 use Rattle.schema_fold_index.specs.in_schema_types.TypeView.{extended_type}
 use Rattle.schema_fold_index.specs.in_schema_types.declared.extended_type.ExtendedType.{ExtendedType}
-use Rattle.schema_fold_index.specs.in_fold.Listed.{Listed, type_name, types_in}
+use Rattle.schema_fold_index.specs.in_fold.NumberedDefinition.{NumberedDefinition, type_name, types_in}
 use Rattle.schema_fold_index.specs.in_fold.BuildErrors.{BuildFault}
 use Rattle.schema_fold_types.specs.TypeFaults.{faults_of_type}
 use Rattle.schema_fold_index.proofs.Listing.{flat_map-push}
@@ -29,7 +29,7 @@ entry_view e = (e.0.text, extended_type e.1)
 abbrev entry_key : List ℕ × SchemaType Place → List ℕ
 entry_key w = w.0
 
-module _ (extensions : List ℕ → List Listed) where
+module _ (extensions : List ℕ → List NumberedDefinition) where
   abbrev made : TypeDefinition Place → List ℕ × SchemaType Place
   made t = (type_name t, type_by extensions t)
 

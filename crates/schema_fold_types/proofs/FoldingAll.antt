@@ -11,11 +11,11 @@ use Rattle.schema_fold_index.specs.in_components.Lists.{firsts}
 use Rattle.schema_fold_index.specs.in_components.Names.{Entries}
 use Rattle.schema_fold_index.specs.in_schema_types.SchemaTree.{SchemaType}
 use Rattle.schema_fold_index.specs.in_schema_types.TypeParts.{TypeDefinition, type_here, type_extension_here}
-use Rattle.schema_fold_index.specs.in_fold.Listed.{Listed, type_name, types_in, definitions_of}
+use Rattle.schema_fold_index.specs.in_fold.NumberedDefinition.{NumberedDefinition, type_name, types_in, definitions_of}
 use Rattle.schema_fold_index.specs.in_fold.ListedView.{listed_view}
 use Rattle.schema_fold_index.specs.in_fold.BuildErrors.{BuildFault}
-use Rattle.schema_fold_index.specs.in_fold.declared.listed.Listed.{Listed as Rust}
-use Rattle.schema_fold_index.specs.declared.index.Filed.{Filed}
+use Rattle.schema_fold_index.specs.in_fold.declared.numbered_definition.NumberedDefinition.{NumberedDefinition as Rust}
+use Rattle.schema_fold_index.specs.declared.index.Positions.{Positions}
 use Rattle.schema_fold_types.specs.Filing.{type_by, FoldsOn}
 use Rattle.schema_fold_index.specs.Index.{FiledEntries, AreFiled, standing_in_list, parts_here, defined_at, extensions_under}
 use Rattle.schema_fold_types.specs.ListTypes.{types_from, faults_from}
@@ -46,7 +46,7 @@ module _ (xs : List Rust) (i : ℕ) where
 
 -- ---- folding on
 
-module _ (extensions : List ℕ → List Listed) where
+module _ (extensions : List ℕ → List NumberedDefinition) where
   pub folds_same : (more more' : List (TypeDefinition Place)) (types types' : Entries (SchemaType Place)) (faults faults' : List BuildFault) → more ≡ more'
       → FoldsOn extensions more types faults types' faults' → FoldsOn extensions more' types faults types' faults'
   folds_same more more' types types' faults faults' same = subst (λ ts. FoldsOn extensions ts types faults types' faults') same
@@ -56,9 +56,9 @@ module _ (extensions : List ℕ → List Listed) where
 
 -- ---- all types
 
-module _ (built_in texts : List Listed) (defined extended : FiledEntries)
+module _ (built_in texts : List NumberedDefinition) (defined extended : FiledEntries)
     (is_defined : AreFiled (standing_in_list parts_here (definitions_of texts)) defined) (is_extended : AreFiled (standing_in_list type_extension_here (definitions_of texts)) extended) where
-  abbrev extensions : List ℕ → List Listed
+  abbrev extensions : List ℕ → List NumberedDefinition
   extensions = extensions_under texts extended
 
   abbrev own : List (TypeDefinition Place)
@@ -67,14 +67,14 @@ module _ (built_in texts : List Listed) (defined extended : FiledEntries)
   abbrev first_ones : List (TypeDefinition Place)
   first_ones = types_in (definitions_of built_in)
 
-  abbrev here : List Filed → List (TypeDefinition Place)
+  abbrev here : List Positions → List (TypeDefinition Place)
   here fs = flat_map (λ f. defined_at (definitions_of texts) f.first) fs
 
-  all_firsts : (fs : List Filed) → fs ≡ values_of defined → firsts type_name (first_ones ++ here fs) ≡ firsts type_name (first_ones ++ own)
+  all_firsts : (fs : List Positions) → fs ≡ values_of defined → firsts type_name (first_ones ++ here fs) ≡ firsts type_name (first_ones ++ own)
   all_firsts fs are = ap (λ l. firsts type_name (first_ones ++ l)) (ap here are ∙ types_filed (definitions_of texts) defined is_defined) ∙ firsts_of_firsts type_name first_ones own
 
   -- the built-in types, and then those that are filed
-  pub folds_all : (types middle types' : Entries (SchemaType Place)) (faults told faults' : List BuildFault) (fs : List Filed) → fs ≡ values_of defined → types ≡ []
+  pub folds_all : (types middle types' : Entries (SchemaType Place)) (faults told faults' : List BuildFault) (fs : List Positions) → fs ≡ values_of defined → types ≡ []
       → FoldsOn extensions first_ones types faults middle told → FoldsOn extensions (here fs) middle told types' faults'
       → (types' ≡ types_from built_in texts) × (faults' ≡ faults ++ faults_from built_in texts)
   folds_all types middle types' faults told faults' fs are empty one two =

@@ -10,10 +10,10 @@ use Rattle.schema_fold_index.specs.in_schema_types.SchemaTree.{same_kind}
 use Rattle.schema_fold_index.specs.in_schema_types.TypeParts.{TypeDefinition, type_here, type_extension_here}
 use Rattle.schema_fold_index.specs.in_schema_types.declared.type_kind.TypeKind.{TypeKind}
 use Rattle.schema_fold_index.specs.in_schema_types.declared.type_kind.TypeKind.TheVariants.{Scalar}
-use Rattle.schema_fold_index.specs.in_fold.Listed.{Definitions, type_name, type_named}
+use Rattle.schema_fold_index.specs.in_fold.NumberedDefinition.{Definitions, type_name, type_named}
 use Rattle.schema_fold_index.specs.in_fold.SchemaFold.{schema_here, schema_extension_here, schema_definition_in}
 use Rattle.schema_fold_index.specs.in_fold.BuildErrors.{Breach, BuildFault, At, ExecutableDefinition, SchemaDefinitionCollision, TypeDefinitionCollision, BuiltInScalarTypeRedefinition, OrphanSchemaExtension, OrphanTypeExtension, TypeExtensionKindMismatch, ExecutableDefinitionAt, SchemaDefinitionCollisionAt, TypeDefinitionCollisionAt, BuiltInScalarTypeRedefinitionAt, OrphanSchemaExtensionAt, OrphanTypeExtensionAt, TypeExtensionKindMismatchAt}
-use Rattle.schema_fold_types.specs.Seen.{seen_of, told_where, faults_at, is_scalar_in, kind_in, kind_seen, schema_seen, executable_told, schema_told, collision_told, redefinition_told, orphan_told, mismatch_told, type_collision_told, scalar_redefinition_told, orphan_type_told, kind_mismatch_told, orphan_schema_told}
+use Rattle.schema_fold_types.specs.DefinedKinds.{seen_of, told_where, faults_at, is_scalar_in, kind_in, kind_seen, schema_seen, executable_told, schema_told, collision_told, redefinition_told, orphan_told, mismatch_told, type_collision_told, scalar_redefinition_told, orphan_type_told, kind_mismatch_told, orphan_schema_told}
 use Rattle.schema_fold_types.proofs.Seeing.{is_scalar_is, kind_seen_is, some_seen_is, schema_seen_is}
 
 -- ---- tests

@@ -5,7 +5,7 @@ use Rattle.std.specs.Map.{lookup}
 use Rattle.std.specs.Option.{option_map}
 use Rattle.std.specs.Str.{bytes_eq}
 use Rattle.schema_fold_index.specs.in_components.Lists.{firsts}
-use Rattle.schema_fold_index.specs.in_fold.Listed.{Definitions, numbered, type_name, type_named, types_in}
+use Rattle.schema_fold_index.specs.in_fold.NumberedDefinition.{Definitions, numbered, type_name, type_named, types_in}
 use Rattle.schema_fold_index.specs.in_fold.Fold.{folded_type, folded_types}
 use Rattle.schema_fold_types.proofs.Named.{named, find_firsts}
 

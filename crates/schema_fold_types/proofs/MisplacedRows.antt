@@ -1,11 +1,11 @@
 -- What is told of small lists, by computation, behind the built-in scalars.
 use Rattle.std.proofs.Common.{◌≡◌, ℕ, List, [], ◌∷◌, map, codes, refl}
 use Rattle.tree_operations.specs.in_directives.declared.operation_type.OperationType.TheVariants as operation
-use Rattle.schema_fold_index.specs.in_fold.Listed.{Definitions}
+use Rattle.schema_fold_index.specs.in_fold.NumberedDefinition.{Definitions}
 use Rattle.schema_fold_index.specs.in_fold.BuiltIn.{built_in_scalars}
 use Rattle.schema_fold_index.specs.in_fold.BuildErrors.{Breach, SchemaDefinitionCollision, TypeDefinitionCollision, BuiltInScalarTypeRedefinition, OrphanSchemaExtension, OrphanTypeExtension, TypeExtensionKindMismatch}
 use Rattle.schema_fold_index.proofs.in_fold.Samples.{field, root, object, interface, extend_object, scalar, extend_scalar, schema, extend_schema}
-use Rattle.schema_fold_types.specs.Seen.{misplaced_faults}
+use Rattle.schema_fold_types.specs.DefinedKinds.{misplaced_faults}
 
 abbrev told : Definitions → List Breach
 told ds = map (λ f. f.breach) (misplaced_faults built_in_scalars ds)

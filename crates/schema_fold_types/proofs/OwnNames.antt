@@ -13,7 +13,7 @@ use Rattle.schema_fold_index.specs.in_components.Names.{Entries}
 use Rattle.schema_fold_index.specs.in_components.Given.{given_name}
 use Rattle.schema_fold_index.proofs.in_components.Firsts.{has_name-push}
 use Rattle.schema_fold_index.specs.in_schema_types.TypeParts.{TypeDefinition}
-use Rattle.schema_fold_index.specs.in_fold.Listed.{Definitions, Listed, numbered, type_name, types_in, directive_name, directives_in}
+use Rattle.schema_fold_index.specs.in_fold.NumberedDefinition.{Definitions, NumberedDefinition, numbered, type_name, types_in, directive_name, directives_in}
 use Rattle.schema_fold_index.specs.in_fold.Components.{components, field_key, value_key, input_key}
 use Rattle.schema_fold_index.specs.in_fold.Fold.{folded_type, folded_types, chosen_directive, folded_directives, fold}
 use Rattle.schema_fold_types.specs.OwnNames.{AreNamed, HasOwnNames, TypesUnderOwnNames, UnderOwnNames}
@@ -85,7 +85,7 @@ module _ {X : Type 0} (key : X → List ℕ) where
     )
 
 -- of one type
-pub folded_own : (list : List Listed) (t : TypeDefinition Place) → HasOwnNames (folded_type list t)
+pub folded_own : (list : List NumberedDefinition) (t : TypeDefinition Place) → HasOwnNames (folded_type list t)
 folded_own list t = record {
   interfaces = distinct_firsts given_name (components (λ p. p.interfaces) list t);
   fields = firsts_named field_key (λ x. x) field_key (λ x. refl) (components (λ p. p.fields) list t);
@@ -95,7 +95,7 @@ folded_own list t = record {
 }
 
 -- of all types
-pub types_own : (list : List Listed) (ts : List (TypeDefinition Place)) → TypesUnderOwnNames (map (λ t. (type_name t, folded_type list t)) (firsts type_name ts))
+pub types_own : (list : List NumberedDefinition) (ts : List (TypeDefinition Place)) → TypesUnderOwnNames (map (λ t. (type_name t, folded_type list t)) (firsts type_name ts))
 types_own list ts =
     let folded = folded_type list in (
       firsts_named type_name folded (λ t. t.name.it) (λ t. refl) ts,

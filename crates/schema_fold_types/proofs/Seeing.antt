@@ -9,7 +9,7 @@ use Rattle.std.proofs.lemmas.List.Folds.{find-append}
 use Rattle.std.proofs.lemmas.Grind.{flat_map-append}
 use Rattle.graphql_names.specs.NameValue.{NameValue}
 use Rattle.graphql_names.specs.Placed.{Place}
-use Rattle.schema_fold_index.specs.in_values.OperationQueries.{default_root_name}
+use Rattle.schema_fold_index.specs.in_operations.OperationQueries.{default_root_name}
 use Rattle.tree_operations.specs.in_directives.declared.operation_type.OperationType.{OperationType}
 use Rattle.tree_operations.specs.in_directives.declared.operation_type.OperationType.TheVariants as operation
 use Rattle.schema_fold_index.specs.in_definitions.DefinitionTree.{DefinitionTree}
@@ -20,12 +20,12 @@ use Rattle.schema_fold_index.specs.in_schema_types.SchemaTree.{same_kind}
 use Rattle.schema_fold_index.specs.in_schema_types.TypeParts.{TypeDefinition, type_here}
 use Rattle.schema_fold_index.specs.in_schema_types.declared.type_kind.TypeKind.{TypeKind}
 use Rattle.schema_fold_index.specs.in_schema_types.declared.type_kind.TypeKind.TheVariants.{Scalar, Object}
-use Rattle.schema_fold_index.specs.in_fold.Listed.{Definitions, type_name, types_in, type_named}
+use Rattle.schema_fold_index.specs.in_fold.NumberedDefinition.{Definitions, type_name, types_in, type_named}
 use Rattle.schema_fold_index.specs.in_fold.SchemaFold.{Root, SchemaGiver, schema_here, schema_definition_in, is_object_in, schema_is_defined}
 use Rattle.schema_fold_index.specs.in_fold.BuildErrors.{is_built_in_scalar}
 use Rattle.schema_fold_index.proofs.Listing.{flat_map-push}
 use Rattle.schema_fold_types.proofs.Named.{named, some_named, find_firsts}
-use Rattle.schema_fold_types.specs.Seen.{Seen, first_kinds, seen_of, Sees, SeesType, kind_in, is_scalar_in, kind_seen, root_seen, schema_seen}
+use Rattle.schema_fold_types.specs.DefinedKinds.{DefinedKinds, first_kinds, seen_of, Sees, SeesType, kind_in, is_scalar_in, kind_seen, root_seen, schema_seen}
 
 abbrev Type_ : Type 0
 Type_ = TypeDefinition Place
@@ -57,7 +57,7 @@ schema_more before d =
 types_more : (before : Definitions) (d : DefinitionTree Place) (o : Option Type_) → type_here d ≡ o → types_in (before ++ d ∷ []) ≡ types_in before ++ option_to_list o
 types_more before d o e = flat_map-push types before d ∙ ap (λ p. types_in before ++ option_to_list p) e
 
-module _ (old new : Seen) (d : DefinitionTree Place) (schema : new.schema ≡ (old.schema || is_some (schema_here d))) where
+module _ (old new : DefinedKinds) (d : DefinitionTree Place) (schema : new.schema ≡ (old.schema || is_some (schema_here d))) where
   sees : (before : Definitions) → old ≡ seen_of before → new.kinds ≡ first_kinds (types_in (before ++ d ∷ [])) → new ≡ seen_of (before ++ d ∷ [])
   sees before is kinds = λ i. record { kinds = kinds i; schema = (schema ∙ ap (λ s. s.schema || is_some (schema_here d)) is ∙ sym (schema_more before d)) i }
 

@@ -6,12 +6,12 @@ use Rattle.graphql_names.specs.Placed.{Place}
 use Rattle.schema_fold_index.specs.in_definitions.DefinitionTree.{DefinitionTree}
 use Rattle.schema_fold_index.specs.in_components.Lists.{AtSomePlace}
 use Rattle.schema_fold_index.proofs.in_components.Places.{found_at, given_at, found_among, given_among, AtSomePlace-map}
-use Rattle.schema_fold_index.specs.in_fold.Listed.{Definitions}
+use Rattle.schema_fold_index.specs.in_fold.NumberedDefinition.{Definitions}
 use Rattle.schema_fold_index.specs.in_fold.BuildErrors.{BuildFault}
 use Rattle.schema_fold_types.proofs.Telling.{told_more}
 use Rattle.schema_fold_types.specs.Misplaced as placed
 use Rattle.schema_fold_types.specs.Misplaced.{Misplaced, TellsMisplaced}
-use Rattle.schema_fold_types.specs.Seen.{seen_of, faults_at, schema_seen, executable_told, schema_told, type_collision_told, scalar_redefinition_told, orphan_schema_told, orphan_type_told, kind_mismatch_told, definition_faults, extension_faults, collision_faults, misplaced_faults}
+use Rattle.schema_fold_types.specs.DefinedKinds.{seen_of, faults_at, schema_seen, executable_told, schema_told, type_collision_told, scalar_redefinition_told, orphan_schema_told, orphan_type_told, kind_mismatch_told, definition_faults, extension_faults, collision_faults, misplaced_faults}
 use Rattle.schema_fold_types.proofs.Judging.{is_executable_definition, is_schema_definition_collision, is_type_definition_collision, is_built_in_scalar_type_redefinition, is_orphan_schema_extension, is_orphan_type_extension, is_type_extension_kind_mismatch}
 
 module _ (built_in texts : Definitions) (f : BuildFault) where

@@ -14,7 +14,7 @@ use Rattle.schema_fold_index.specs.in_schema_types.SchemaTree.{same_kind}
 use Rattle.schema_fold_index.specs.in_schema_types.TypeParts.{TypeDefinition, type_here}
 use Rattle.schema_fold_index.specs.in_schema_types.declared.type_kind.TypeKind.{TypeKind}
 use Rattle.schema_fold_index.specs.in_schema_types.declared.type_kind.TypeKind.TheVariants.{Scalar, Object, Interface, Union, Enum, InputObject}
-use Rattle.schema_fold_index.specs.in_fold.Listed.{Definitions, Listed, numbered, type_name, types_in}
+use Rattle.schema_fold_index.specs.in_fold.NumberedDefinition.{Definitions, NumberedDefinition, numbered, type_name, types_in}
 use Rattle.schema_fold_index.specs.in_fold.Components.{parts_of, keyed_firsts, field_key, value_key, input_key}
 use Rattle.schema_fold_index.specs.in_fold.Collected.{AllComponents, collected_from}
 use Rattle.schema_fold_index.specs.in_fold.Kept.{kept_from, repeat_faults, component_faults}
@@ -254,7 +254,7 @@ first_stands {X} key xs x h = stands (found_at cond_here xs x h)
     stands (b, (y, ((after, e), k))) = subst (λ l. Contains l x) (sym e) (Contains-append_right b (y ∷ after) x (Contains-first y after x (sym (same b y k))))
 
 -- a type that is defined in the list has components of the classes of its kind alone
-of_kind : (list : List Listed) (ds : Definitions) (t : TypeDefinition Place) → Contains (firsts type_name (types_in ds)) t → IsOfKind t.parts.kind (kept_from (collected_from (parts_of list t)))
+of_kind : (list : List NumberedDefinition) (ds : Definitions) (t : TypeDefinition Place) → Contains (firsts type_name (types_in ds)) t → IsOfKind t.parts.kind (kept_from (collected_from (parts_of list t)))
 of_kind list ds t h =
     let p = from_flat_map (λ d. option_to_list (type_here d)) ds t (first_stands type_name (types_in ds) t h) in
     by p.0 (type_here p.0) refl p.1.1

@@ -6,14 +6,14 @@ use Rattle.schema_fold_index.specs.in_components.Lists.{firsts}
 use Rattle.schema_fold_index.specs.in_components.Names.{Entries}
 use Rattle.schema_fold_index.specs.in_schema_types.SchemaTree.{SchemaType}
 use Rattle.schema_fold_index.specs.in_schema_types.TypeParts.{TypeDefinition}
-use Rattle.schema_fold_index.specs.in_fold.Listed.{Listed, type_name}
+use Rattle.schema_fold_index.specs.in_fold.NumberedDefinition.{NumberedDefinition, type_name}
 use Rattle.schema_fold_index.specs.in_fold.Fold.{folded_type}
 use Rattle.schema_fold_index.specs.in_fold.BuildErrors.{BuildFault}
 use Rattle.schema_fold_types.specs.TypeFaults.{faults_of_type}
 
 -- ---- types with the extensions under their names
 
-module _ (extensions : List ℕ → List Listed) where
+module _ (extensions : List ℕ → List NumberedDefinition) where
   abbrev pub type_by : TypeDefinition Place → SchemaType Place
   type_by t = folded_type (extensions (type_name t)) t
 
@@ -23,7 +23,7 @@ module _ (extensions : List ℕ → List Listed) where
   abbrev pub faults_by : List (TypeDefinition Place) → List BuildFault
   faults_by ts = flat_map (λ t. faults_of_type (extensions (type_name t)) t) (firsts type_name ts)
 
-  -- where types and faults were those of some definitions, they now are those of these too
+  -- if the types and faults were those of some definitions, they are now those of these followed by `more`
   abbrev pub FoldsOn : List (TypeDefinition Place) → Entries (SchemaType Place) → List BuildFault → Entries (SchemaType Place) → List BuildFault → Type 0
   FoldsOn more types faults types' faults' = (before : List (TypeDefinition Place)) (start : List BuildFault) → types ≡ types_by before → faults ≡ start ++ faults_by before
       → (types' ≡ types_by (before ++ more)) × (faults' ≡ start ++ faults_by (before ++ more))

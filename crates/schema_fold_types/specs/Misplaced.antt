@@ -1,9 +1,9 @@
--- Private: leads to `Fails` of `schema_fold`. The folding rules that are judged by what stands at a position of the list, together (GraphQL, October 2021, section 3).
+-- Private: leads to `Fails` of `schema_fold`. The folding rules on one position of the list, apart from the one on directives, together (GraphQL, October 2021, section 3).
 use Rattle.std.specs.Prelude.{◌↔◌, ◌⊎◌, List, Contains}
-use Rattle.schema_fold_index.specs.in_fold.Listed.{Definitions}
+use Rattle.schema_fold_index.specs.in_fold.NumberedDefinition.{Definitions}
 use Rattle.schema_fold_index.specs.in_fold.BuildErrors.{BuildFault, BreaksSomewhere, ExecutableDefinitionAt, SchemaDefinitionCollisionAt, TypeDefinitionCollisionAt, BuiltInScalarTypeRedefinitionAt, OrphanSchemaExtensionAt, OrphanTypeExtensionAt, TypeExtensionKindMismatchAt}
 
--- one of these rules is broken so at some position of the texts
+-- one of these rules is broken with this fault at some position of the texts
 pub data Misplaced (built_in texts : Definitions) (fault : BuildFault) : Type 0 where
   executable_definition : BreaksSomewhere built_in texts ExecutableDefinitionAt fault → Misplaced built_in texts fault
   schema_definition_collision : BreaksSomewhere built_in texts SchemaDefinitionCollisionAt fault → Misplaced built_in texts fault
@@ -13,6 +13,6 @@ pub data Misplaced (built_in texts : Definitions) (fault : BuildFault) : Type 0 
   orphan_type_extension : BreaksSomewhere built_in texts (OrphanTypeExtensionAt built_in texts) fault → Misplaced built_in texts fault
   type_extension_kind_mismatch : BreaksSomewhere built_in texts (TypeExtensionKindMismatchAt built_in texts) fault → Misplaced built_in texts fault
 
--- the faults that are told more are those that break one of these rules
+-- the faults that are added are those of these rules
 abbrev pub TellsMisplaced : Definitions → Definitions → List BuildFault → List BuildFault → Type 0
 TellsMisplaced built_in texts old new = (f : BuildFault) → Contains new f ↔ (Contains old f ⊎ Misplaced built_in texts f)

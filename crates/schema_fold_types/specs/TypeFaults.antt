@@ -4,22 +4,22 @@ use Rattle.std.specs.List.{flat_map}
 use Rattle.graphql_names.specs.Placed.{Place}
 use Rattle.schema_fold_index.specs.in_components.Lists.{firsts}
 use Rattle.schema_fold_index.specs.in_schema_types.TypeParts.{TypeDefinition}
-use Rattle.schema_fold_index.specs.in_fold.Listed.{Definitions, Listed, numbered, type_name, types_in}
+use Rattle.schema_fold_index.specs.in_fold.NumberedDefinition.{Definitions, NumberedDefinition, numbered, type_name, types_in}
 use Rattle.schema_fold_index.specs.in_fold.Components.{parts_of}
 use Rattle.schema_fold_index.specs.in_fold.Collected.{collected_from}
 use Rattle.schema_fold_index.specs.in_fold.Kept.{component_faults}
 use Rattle.schema_fold_index.specs.in_fold.BuildErrors as breach
 use Rattle.schema_fold_index.specs.in_fold.BuildErrors.{Breach, BuildFault, DuplicateImplementsInterfaceInObjectIn, DuplicateImplementsInterfaceInInterfaceIn, ObjectFieldNameCollisionIn, InterfaceFieldNameCollisionIn, EnumValueNameCollisionIn, UnionMemberNameCollisionIn, InputFieldNameCollisionIn}
 
--- what the fold of a type tells
-abbrev pub faults_of_type : List Listed → TypeDefinition Place → List BuildFault
+-- the faults that folding a type tells
+abbrev pub faults_of_type : List NumberedDefinition → TypeDefinition Place → List BuildFault
 faults_of_type list t = component_faults t.parts.kind t.parts.name.it (collected_from (parts_of list t))
 
--- what the folds of all types tell
+-- the faults that folding all types tells
 abbrev pub faults_of_types : ℕ → Definitions → List BuildFault
 faults_of_types first ds = flat_map (faults_of_type (numbered first ds)) (firsts type_name (types_in ds))
 
--- a rule on the components of a type is broken so
+-- a rule on the components of a type is broken with this fault
 pub data FailsInType (built_in texts : Definitions) (first : ℕ) (fault : BuildFault) : Type 0 where
   duplicate_implements_interface_in_object : DuplicateImplementsInterfaceInObjectIn built_in texts first fault → FailsInType built_in texts first fault
   duplicate_implements_interface_in_interface : DuplicateImplementsInterfaceInInterfaceIn built_in texts first fault → FailsInType built_in texts first fault
@@ -29,7 +29,7 @@ pub data FailsInType (built_in texts : Definitions) (first : ℕ) (fault : Build
   union_member_name_collision : UnionMemberNameCollisionIn built_in texts first fault → FailsInType built_in texts first fault
   input_field_name_collision : InputFieldNameCollisionIn built_in texts first fault → FailsInType built_in texts first fault
 
--- the rule that a breach names, where it is one on the components of a type
+-- the breach is of a rule on the components of a type, and that rule is broken with this fault
 abbrev pub ComponentRule : Definitions → Definitions → ℕ → Breach → BuildFault → Type 0
 ComponentRule built_in texts first (breach.DuplicateImplementsInterfaceInObject t n) fault = DuplicateImplementsInterfaceInObjectIn built_in texts first fault
 ComponentRule built_in texts first (breach.DuplicateImplementsInterfaceInInterface t n) fault = DuplicateImplementsInterfaceInInterfaceIn built_in texts first fault

@@ -1,50 +1,52 @@
-//! The rules that are judged by what stands before a definition.
+//! The rules that are judged by what comes before a definition.
 ghost use Rattle.std.specs.Prelude.{◌≡◌, ◌||◌, ◌++◌, [], ◌∷◌, map, is_some, IfOk, OnOk};
 ghost use Rattle.schema_fold_index.specs.in_definitions.DefinitionTree.{definition_tree};
 ghost use Rattle.schema_fold_index.specs.in_fold.BuildErrors.{ExecutableDefinition, SchemaDefinitionCollision, TypeDefinitionCollision, BuiltInScalarTypeRedefinition};
 ghost use Rattle.schema_fold_index.specs.in_fold.FaultView.{faults_of};
-ghost use Rattle.schema_fold_index.specs.in_fold.Listed.{definitions_of};
+ghost use Rattle.schema_fold_index.specs.in_fold.NumberedDefinition.{definitions_of};
 ghost use Rattle.schema_fold_index.specs.in_fold.ListedView.{listed_view};
 ghost use Rattle.schema_fold_index.specs.in_fold.SchemaFold.{schema_definition_in};
 ghost use Rattle.schema_fold_index.specs.Index.{AreFiled, standing_in_list, parts_here};
-ghost use Rattle.schema_fold_types.specs.Seen.{kind_in, type_faults, collision_faults};
-ghost use Rattle.schema_fold_types.specs.SeenView.{seen_view};
-ghost use Rattle.schema_fold_types.specs.OwnView.{is_defined_before};
-ghost use Rattle.schema_fold_types.specs.Steps.{AddsFaults, definitions_listed, faults_after};
+ghost use Rattle.schema_fold_types.specs.DefinedKinds.{kind_in, type_faults, collision_faults};
+ghost use Rattle.schema_fold_types.specs.DefinedKindsView.{seen_view};
+ghost use Rattle.schema_fold_types.specs.TextDefinitionsView.{is_defined_before};
+ghost use Rattle.schema_fold_types.specs.TypeFoldSteps.{AddsFaults, definitions_listed, faults_after};
 
-use crate::seen::{Seen, is_schema_definition};
+use crate::defined_kinds::{DefinedKinds, is_schema_definition};
 use graphql_names::{Name, SourceSpan};
 use indexmap::IndexMap;
-use schema_fold_index::{BuildError, Definition, Filed, Listed, tell, type_definition};
+use schema_fold_index::{
+    BuildError, Definition, NumberedDefinition, Positions, tell, type_definition,
+};
 use std::alloc::AllocError;
 
-/// What stands before a position of the texts: the types that are filed there, and a schema definition or none.
+/// What comes before a position of the texts: the types that are filed, and whether there is a schema definition.
 #[derive(Clone, Copy)]
 struct Before<'a> {
-    defined: &'a IndexMap<Name, Filed>,
+    defined: &'a IndexMap<Name, Positions>,
     schema: bool,
     position: usize,
 }
 
 impl<'a> Before<'a> {
-    /// Whether a type of that name is defined there.
+    /// Whether a type of that name is defined before the position.
     fn defines(&self, name: &Name) -> bool
         ensures { result ≡ is_defined_before self.now name.now.text }
     {
         match self.defined.get(name) {
             None => false,
-            // The index has the first of each name: an earlier one is there exactly if the first is earlier.
+            // The index has the first position of each name: there is an earlier definition exactly if the first is earlier.
             Some(filed) => filed.first < self.position,
         }
     }
 }
 
-/// Tells each definition of the texts that collides with an earlier one, or is none of a type system. Gives whether the
-/// texts define the schema.
+/// Tells each definition of the texts that collides with an earlier one, or is not of the type system. Returns whether
+/// the texts define the schema.
 pub(crate) fn tell_collisions(
-    built_in: &Seen,
-    texts: &[Listed],
-    defined: &IndexMap<Name, Filed>,
+    built_in: &DefinedKinds,
+    texts: &[NumberedDefinition],
+    defined: &IndexMap<Name, Positions>,
     faults: &mut Vec<(Option<SourceSpan>, BuildError)>,
 ) -> Result<bool, AllocError>
     requires { AreFiled (standing_in_list parts_here (definitions_of (map listed_view texts.now))) defined.now.entries }
@@ -67,7 +69,7 @@ pub(crate) fn tell_collisions(
 
 /// Tells what is wrong with a definition, given those before it.
 fn tell_definition(
-    built_in: &Seen,
+    built_in: &DefinedKinds,
     before: &Before<'_>,
     d: &Definition,
     faults: &mut Vec<(Option<SourceSpan>, BuildError)>,
@@ -88,7 +90,7 @@ fn tell_definition(
 
 /// Tells what is wrong with a type of that name, given those before it.
 fn tell_type(
-    built_in: &Seen,
+    built_in: &DefinedKinds,
     before: &Before<'_>,
     name: &Name,
     location: Option<SourceSpan>,
@@ -96,7 +98,7 @@ fn tell_type(
 ) -> Result<(), AllocError>
     ensures { OnOk result (AddsFaults faults.old faults.new (type_faults (seen_view built_in.now) (is_defined_before before.now) location name.now.text)) }
 {
-    // The name of a built-in scalar is told by this rule alone, whatever kind is defined under it.
+    // The name of a built-in scalar is told only by this rule, whatever kind of type is defined under it.
     if built_in.has_scalar(name) {
         return built_in_scalar_type_redefinition(name, location, faults);
     }
@@ -106,8 +108,8 @@ fn tell_type(
     Ok(())
 }
 
-/// Whether a type of that name is built in, or stands before the position.
-fn is_defined(built_in: &Seen, before: &Before<'_>, name: &Name) -> bool
+/// Whether a type of that name is built in, or is defined before the position.
+fn is_defined(built_in: &DefinedKinds, before: &Before<'_>, name: &Name) -> bool
     ensures { result ≡ (is_some (kind_in (seen_view built_in.now) name.now.text) || is_defined_before before.now name.now.text) }
 {
     built_in.kind(name).is_some() || before.defines(name)

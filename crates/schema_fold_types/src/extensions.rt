@@ -6,16 +6,16 @@ ghost use Rattle.schema_fold_index.specs.Index.{positions_of, listed_at, extensi
 
 use graphql_names::Name;
 use indexmap::IndexMap;
-use schema_fold_index::{Filed, Listed};
+use schema_fold_index::{NumberedDefinition, Positions};
 use std::alloc::{AllocError, Global};
 
 /// The extensions that are filed under a name, shared, with their numbers, in the order of the list.
 pub(crate) fn extensions_of(
     alloc: Global,
-    texts: &[Listed],
-    extended: &IndexMap<Name, Filed>,
+    texts: &[NumberedDefinition],
+    extended: &IndexMap<Name, Positions>,
     name: &Name,
-) -> Result<Vec<Listed>, AllocError>
+) -> Result<Vec<NumberedDefinition>, AllocError>
     ensures { IfOk result (λ v. map listed_view v.items ≡ extensions_under (map listed_view texts.now) extended.now.entries name.now.text) }
 {
     match extended.get(name) {
@@ -25,7 +25,11 @@ pub(crate) fn extensions_of(
 }
 
 /// The entries at the positions that are filed, shared.
-fn gather(alloc: Global, texts: &[Listed], filed: &Filed) -> Result<Vec<Listed>, AllocError>
+fn gather(
+    alloc: Global,
+    texts: &[NumberedDefinition],
+    filed: &Positions,
+) -> Result<Vec<NumberedDefinition>, AllocError>
     ensures { IfOk result (λ v. map listed_view v.items ≡ flat_map (listed_at (map listed_view texts.now)) (positions_of filed.now)) }
 {
     let mut gathered = Vec::new(alloc);
@@ -37,15 +41,19 @@ fn gather(alloc: Global, texts: &[Listed], filed: &Filed) -> Result<Vec<Listed>,
 }
 
 /// Adds the entry at a position of the list after the others, shared, if there is one.
-fn push_at(texts: &[Listed], position: usize, gathered: &mut Vec<Listed>) -> Result<(), AllocError>
+fn push_at(
+    texts: &[NumberedDefinition],
+    position: usize,
+    gathered: &mut Vec<NumberedDefinition>,
+) -> Result<(), AllocError>
     ensures { OnOk result (map listed_view gathered.new.items ≡ map listed_view gathered.old.items ++ listed_at (map listed_view texts.now) position) }
 {
-    // Each position that is filed is there, but this function need not know it.
+    // Each position that is filed is in the list, but this function need not know that.
     let Some(listed) = texts.get(position) else {
         return Ok(());
     };
     let definition = listed.definition.clone()?;
-    gathered.push(Listed {
+    gathered.push(NumberedDefinition {
         definition,
         extension: listed.extension,
     })?;

@@ -4,21 +4,21 @@ ghost use Rattle.schema_fold_index.specs.in_definitions.DefinitionTree.{definiti
 ghost use Rattle.schema_fold_index.specs.in_fold.BuildErrors.{OrphanSchemaExtension, OrphanTypeExtension, TypeExtensionKindMismatch};
 ghost use Rattle.schema_fold_index.specs.in_fold.FaultView.{faults_of};
 ghost use Rattle.schema_fold_index.specs.in_fold.SchemaFold.{schema_extension_here};
-ghost use Rattle.schema_fold_types.specs.Seen.{extension_faults};
-ghost use Rattle.schema_fold_types.specs.SeenView.{seen_view};
-ghost use Rattle.schema_fold_types.specs.OwnView.{own_view};
-ghost use Rattle.schema_fold_types.specs.Steps.{AddsFaults, all_extension_faults, faults_of_extension};
+ghost use Rattle.schema_fold_types.specs.DefinedKinds.{extension_faults};
+ghost use Rattle.schema_fold_types.specs.DefinedKindsView.{seen_view};
+ghost use Rattle.schema_fold_types.specs.TextDefinitionsView.{own_view};
+ghost use Rattle.schema_fold_types.specs.TypeFoldSteps.{AddsFaults, all_extension_faults, faults_of_extension};
 
-use crate::seen::{Own, Seen, kind_of, schema_is_defined};
+use crate::defined_kinds::{DefinedKinds, TextDefinitions, kind_of, schema_is_defined};
 use graphql_names::{Name, SourceSpan};
-use schema_fold_index::{BuildError, Definition, Listed, Parts, extension_parts, tell};
+use schema_fold_index::{BuildError, Definition, NumberedDefinition, Parts, extension_parts, tell};
 use std::alloc::AllocError;
 
 /// Tells each extension of the texts whose schema or type is not defined, or is of another kind.
 pub(crate) fn tell_extensions(
-    built_in: &Seen,
-    own: &Own<'_>,
-    texts: &[Listed],
+    built_in: &DefinedKinds,
+    own: &TextDefinitions<'_>,
+    texts: &[NumberedDefinition],
     faults: &mut Vec<(Option<SourceSpan>, BuildError)>,
 ) -> Result<(), AllocError>
     ensures { OnOk result (AddsFaults faults.old faults.new (all_extension_faults (seen_view built_in.now) (own_view own.now) texts.now)) }
@@ -29,10 +29,10 @@ pub(crate) fn tell_extensions(
     Ok(())
 }
 
-/// Tells what is wrong with an extension, where these are all that are defined.
+/// Tells what is wrong with an extension, given what the whole list defines.
 fn tell_extension(
-    built_in: &Seen,
-    own: &Own<'_>,
+    built_in: &DefinedKinds,
+    own: &TextDefinitions<'_>,
     d: &Definition,
     faults: &mut Vec<(Option<SourceSpan>, BuildError)>,
 ) -> Result<(), AllocError>
@@ -54,10 +54,10 @@ fn is_schema_extension(d: &Definition) -> bool
     matches!(d, Definition::SchemaExtension(_))
 }
 
-/// Tells what is wrong with the extension of a type, where these are all that are defined.
+/// Tells what is wrong with the extension of a type, given what the whole list defines.
 fn tell_type_extension(
-    built_in: &Seen,
-    own: &Own<'_>,
+    built_in: &DefinedKinds,
+    own: &TextDefinitions<'_>,
     parts: &Parts<'_>,
     location: Option<SourceSpan>,
     faults: &mut Vec<(Option<SourceSpan>, BuildError)>,

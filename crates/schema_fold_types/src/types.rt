@@ -2,35 +2,36 @@
 ghost use Rattle.std.specs.Prelude.{◌≡◌, ◌++◌, ◌∷◌, [], map, IfOk, OnOk};
 ghost use Rattle.schema_fold_index.specs.in_schema_types.SchemaView.{types_view};
 ghost use Rattle.schema_fold_index.specs.in_fold.FaultView.{faults_of};
-ghost use Rattle.schema_fold_index.specs.in_fold.Listed.{types_in, definitions_of};
+ghost use Rattle.schema_fold_index.specs.in_fold.NumberedDefinition.{types_in, definitions_of};
 ghost use Rattle.schema_fold_index.specs.in_fold.ListedView.{listed_view};
 ghost use Rattle.schema_fold_index.specs.in_fold.Made.{defined_view, IsDefinition};
 ghost use Rattle.schema_fold_index.specs.Index.{IsIndexOf, defined_at};
 ghost use Rattle.schema_fold_types.specs.ListTypes.{types_from, faults_from, FoldsTypes, TellsTypes};
 ghost use Rattle.schema_fold_types.specs.OwnNames.{TypesUnderOwnNames};
-ghost use Rattle.schema_fold_types.specs.Steps.{definitions_listed, defined_filed, FoldsMore, defined_here};
+ghost use Rattle.schema_fold_types.specs.TypeFoldSteps.{definitions_listed, defined_filed, FoldsMore, defined_here};
 
 use crate::extensions::extensions_of;
 use graphql_names::{Name, SourceSpan};
 use indexmap::IndexMap;
 use schema_fold_index::{
-    BuildError, Defined, ExtendedType, Filed, Index, Listed, fold_type, insert_new, type_definition,
+    BuildError, Defined, ExtendedType, Index, NumberedDefinition, Positions, fold_type, insert_new,
+    type_definition,
 };
 use std::alloc::{AllocError, Global};
 
-/// The texts, and the positions in them at which types are extended, filed under their names.
+/// The texts, and the positions in them at which types are extended, filed under the names of the types.
 #[derive(Clone, Copy)]
 struct Extended<'a> {
-    texts: &'a [Listed],
-    filed: &'a IndexMap<Name, Filed>,
+    texts: &'a [NumberedDefinition],
+    filed: &'a IndexMap<Name, Positions>,
 }
 
 /// Folds the types (sections 3.4 to 3.10): the first definition of each name, with each extension of its name and kind.
 /// Tells each component that is not the first of its name.
 pub fn fold_types(
     alloc: Global,
-    built_in: &[Listed],
-    texts: &[Listed],
+    built_in: &[NumberedDefinition],
+    texts: &[NumberedDefinition],
     index: &Index,
     faults: &mut Vec<(Option<SourceSpan>, BuildError)>,
 ) -> Result<IndexMap<Name, ExtendedType>, AllocError>
@@ -56,7 +57,7 @@ pub fn fold_types(
 /// Folds the built-in types, with their extensions.
 fn fold_built_in(
     alloc: Global,
-    built_in: &[Listed],
+    built_in: &[NumberedDefinition],
     extended: &Extended<'_>,
     types: &mut IndexMap<Name, ExtendedType>,
     faults: &mut Vec<(Option<SourceSpan>, BuildError)>,
@@ -70,11 +71,11 @@ fn fold_built_in(
 }
 
 /// Folds the first definition of each name that is filed, with its extensions.
-// A step has a function of its own from here to `fold_first`: the position, the definition there, the first of its
-// name. So each is proved by itself, and what is built in joins at `fold_here`.
+// From here to `fold_first` each step has its own function, which is proved separately: the position, the definition
+// there, the first of its name. Built-in types come in at `fold_here`.
 fn fold_filed(
     alloc: Global,
-    defined: &[Filed],
+    defined: &[Positions],
     extended: &Extended<'_>,
     types: &mut IndexMap<Name, ExtendedType>,
     faults: &mut Vec<(Option<SourceSpan>, BuildError)>,
@@ -106,7 +107,7 @@ fn fold_at(
 /// Folds the type that is defined here, if one is.
 fn fold_here(
     alloc: Global,
-    listed: &Listed,
+    listed: &NumberedDefinition,
     extended: &Extended<'_>,
     types: &mut IndexMap<Name, ExtendedType>,
     faults: &mut Vec<(Option<SourceSpan>, BuildError)>,

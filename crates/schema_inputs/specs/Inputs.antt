@@ -1,4 +1,4 @@
--- What is known of the arguments and the input fields that a schema defines, where they are many (GraphQL, October 2021, sections 3.6.1, 3.10 and 3.13).
+-- What is known of the arguments and the input fields that a schema defines, if they are many (GraphQL, October 2021, sections 3.6.1, 3.10 and 3.13).
 use Rattle.std.specs.Prelude.{◌≡◌, ⊤, List, [], ◌∷◌, map, flat_map, Option, IfSome, Some, ℕ, if◌then◌else◌}
 use Rattle.graphql_names.specs.Placed.{Placed, Place}
 use Rattle.graphql_names.specs.declared.name.Name.{Name}
@@ -41,49 +41,49 @@ required_entries es = flat_map if_field_required es
 abbrev pub listed_field : Name × Component InputValueDefinition → List ℕ × Given Place (Placed Place (InputValueTree Place))
 listed_field e = (e.0.text, component_tree input_value_tree e.1)
 
--- at each index at which both lists have something, it fits
+-- R holds at each index at which both lists have an element
 abbrev pub AreEach : {X Y : Type 0} → (X → Y → Type 0) → List X → List Y → Type 0
 AreEach R [] ys = ⊤
 AreEach R (x ∷ xs) [] = ⊤
 AreEach R (x ∷ xs) (y ∷ ys) = R x y × AreEach R xs ys
 
--- there is one, and it is so
+-- there is a value, and P holds for it
 abbrev pub HasAt : {X : Type 0} → Option X → (X → Type 0) → Type 0
 HasAt {X} o P = (x : X) × ((o ≡ Some x) × P x)
 
--- of each name the index of the first argument that has it, and those that are required
+-- `known` has under each name the index of the first argument with that name, and it has the required arguments
 abbrev pub AreKnown : InputValues Place → KnownArguments → Type 0
 AreKnown vs known = AreNumbers input_name known.numbers vs × (input_value_trees known.required.items ≡ required_inputs vs)
 
 abbrev pub AreKnownIfMany : InputValues Place → Option KnownArguments → Type 0
 AreKnownIfMany vs known = IfSome known (AreKnown vs)
 
--- what is known is of the arguments of the directive of that name
+-- there is a directive of that name, and `known` is about its arguments
 abbrev pub IsOfDirective : Entries (Placed Place (DirectiveDefinitionTree Place)) → List ℕ → KnownArguments → Type 0
 IsOfDirective ds n known = HasAt (under n ds) (λ d. AreKnown d.it.arguments known)
 
--- of the field m of the type n
+-- the type n has a field m, and `known` is about its arguments
 abbrev pub IsOfField : Entries (SchemaType Place) → List ℕ → List ℕ → KnownArguments → Type 0
 IsOfField ts n m known = HasAt (under n ts) (λ t. HasAt (under m t.fields) (λ f. AreKnown f.it.it.arguments known))
 
--- these are the required ones of the fields
+-- `fields` are the required ones of these input fields
 abbrev pub AreRequired : FieldEntries → List (Name × Component InputValueDefinition) → Type 0
 AreRequired es fields = map listed_field fields ≡ required_entries es
 
--- of a type: the arguments of each of its fields, and its required input fields
+-- `known` is about this type: the arguments of each of its fields, and its required input fields, as far as they are recorded
 abbrev pub IsKnownType : SchemaType Place → KnownType → Type 0
 IsKnownType t known =
     AreEach (λ e arguments. AreKnownIfMany e.1.it.it.arguments arguments) t.fields known.arguments.items
     × IfSome known.required (λ fields. AreRequired t.inputs fields.items)
 
--- of each of these types, by its index
+-- the same for each of these types, by its index
 abbrev pub AreTypesOf : Entries (SchemaType Place) → SchemaInputs → Type 0
 AreTypesOf ts inputs = AreEach (λ e known. IsKnownType e.1 known) ts inputs.types.items
 
--- of each of these directives, by its index: its arguments
+-- the same for the arguments of each of these directives, by its index
 abbrev pub AreDirectivesOf : Entries (Placed Place (DirectiveDefinitionTree Place)) → SchemaInputs → Type 0
 AreDirectivesOf ds inputs = AreEach (λ e arguments. AreKnownIfMany e.1.it.arguments arguments) ds inputs.directives.items
 
--- of a schema
+-- the same for a schema
 abbrev pub AreInputsOf : SchemaTree Place → SchemaInputs → Type 0
 AreInputsOf s inputs = AreTypesOf s.types inputs × AreDirectivesOf s.directives inputs

@@ -1,4 +1,4 @@
-//! Arguments as they are defined together.
+//! The arguments of one field or directive definition.
 ghost use Rattle.std.specs.Prelude.{◌≡◌, IfSome};
 ghost use Rattle.tree_directives.specs.DirectiveTree.{input_value_trees};
 ghost use Rattle.schema_inputs.specs.Firsts.{AreNumbers};
@@ -10,7 +10,7 @@ use indexmap::IndexMap;
 use std::marker::Model;
 use tree_directives::InputValueDefinition;
 
-/// Arguments that are defined together, and what is known of them, if that is there.
+/// The arguments of one field or directive definition, and what is known of them, if anything is.
 ///
 /// Contracts see them as the list of their definitions.
 pub struct DefinedArguments<'a> {
@@ -42,16 +42,16 @@ impl<'a> Model for DefinedArguments<'a> {
     ghost invariant = { λ d. IfSome d.known (λ known. AreKnown (input_value_trees d.nodes.now) known.now) };
 }
 
-/// What is defined, by what is known of it.
+/// Making them, and queries on them.
 impl<'a> DefinedArguments<'a> {
-    /// These, of which nothing is known.
+    /// These arguments, of which nothing is known.
     pub fn listed(nodes: &'a [Node<InputValueDefinition>]) -> DefinedArguments<'a>
         ensures { result ≡ nodes.now }
     {
         DefinedArguments { nodes, known: None }
     }
 
-    /// These, of which that is known, if anything is.
+    /// These arguments, with what is known of them, if anything is.
     pub fn new(
         nodes: &'a [Node<InputValueDefinition>],
         known: Option<&'a KnownArguments>,
@@ -62,14 +62,14 @@ impl<'a> DefinedArguments<'a> {
         DefinedArguments { nodes, known }
     }
 
-    /// Their definitions.
+    /// The definitions of the arguments.
     pub fn nodes(&self) -> &'a [Node<InputValueDefinition>]
         ensures { result.now ≡ self.now }
     {
         self.nodes
     }
 
-    /// Of each name the index of the first that has it, if that is known.
+    /// Under each name the index of the first argument with that name, if that is known.
     pub fn numbers(&self) -> Option<&'a IndexMap<Name, usize>>
         ensures { IfSome result (λ numbers. AreNumbers input_name numbers.now (input_value_trees self.now)) }
     {
@@ -79,7 +79,7 @@ impl<'a> DefinedArguments<'a> {
         }
     }
 
-    /// All that are required, in order, and others among them where they are few or nothing is known.
+    /// All required arguments, in order; if nothing is known of the arguments, all others too.
     pub fn with_required(&self) -> &'a [Node<InputValueDefinition>]
         ensures { required_inputs (input_value_trees result.now) ≡ required_inputs (input_value_trees self.now) }
     {

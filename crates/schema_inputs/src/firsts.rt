@@ -1,4 +1,4 @@
-//! What is noted first under each name.
+//! The first value that is noted under each name.
 ghost use Rattle.std.specs.Prelude.{◌≡◌, IfOk, OnOk, None, Some, bytes_eq, if◌then◌else◌};
 ghost use Rattle.std.specs.Option.{option_or};
 ghost use Rattle.indexmap.specs.IndexMap.{get};
@@ -9,8 +9,8 @@ use graphql_names::Name;
 use indexmap::IndexMap;
 use std::alloc::AllocError;
 
-/// Notes a value under a name, unless there is one: that stays, and is given.
-// It is not inlined, so that what it holds takes no stack at each level of a value.
+/// Notes a value under a name, unless there is one: that one stays, and is returned.
+// It is not inlined, so that its locals take no stack at each level of a value.
 #[inline(never)]
 pub fn note_first<V: Copy>(
     firsts: &mut IndexMap<Name, V>,

@@ -10,7 +10,7 @@ use schema_types::ExtendedType;
 use std::marker::Model;
 use tree_directives::InputValueDefinition;
 
-/// A type of a schema, and the required ones of its fields, if it is an input object with many and that is known.
+/// A type of a schema, and the required ones of its fields, if it is an input object with many and these are known.
 ///
 /// Contracts see it as the type.
 pub struct FoundType<'a> {
@@ -41,7 +41,7 @@ impl<'a> Model for FoundType<'a> {
     ghost invariant = { λ t. IfSome t.required (λ required. AreRequired (extended_type t.ty.now).inputs required.now) };
 }
 
-/// What is found, by what is known of it.
+/// Making it, and queries on it.
 impl<'a> FoundType<'a> {
     /// The type, of which nothing is known.
     pub fn plain(ty: &'a ExtendedType) -> FoundType<'a>

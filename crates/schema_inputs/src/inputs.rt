@@ -1,4 +1,4 @@
-//! What a schema defines of many input values, found by name.
+//! What is known of many arguments or input fields that a schema defines, found by name.
 ghost use Rattle.std.specs.Prelude.{◌≡◌, IfOk, IfSome, Some, slice_get};
 ghost use Rattle.std.specs.Option.{option_map};
 ghost use Rattle.graphql_names.specs.Placed.{node_tree};
@@ -20,13 +20,13 @@ use std::alloc::{AllocError, Global};
 use tree_directives::DirectiveDefinition;
 use tree_type_members::FieldDefinition;
 
-/// What a schema defines of many input values (sections 3.6.1, 3.10 and 3.13): where a field or a directive takes many arguments, or
-/// an input object has many fields, where each name stands, and which are required. So a use costs what it gives and what it has to
-/// give, and not all that is defined.
+/// What is known of the arguments of a field or a directive that takes many, and of the fields of an input object that has many
+/// (sections 3.6.1, 3.10 and 3.13): the index of each name, and which are required. So the cost of a use depends on what it gives
+/// and what it has to give, and not on all that is defined.
 pub struct SchemaInputs {
-    /// Of each type, by its index.
+    /// What is known of each type, by the type's index.
     pub(crate) types: Vec<KnownType>,
-    /// Of each directive, by its index, the arguments, where they are many.
+    /// What is known of the arguments of each directive, by the directive's index, if they are many.
     pub(crate) directives: Vec<Option<KnownArguments>>,
 }
 
@@ -41,7 +41,7 @@ impl Drop for SchemaInputs {
 }
 
 impl SchemaInputs {
-    /// Those of a schema with these types and directives. Fails where memory is refused.
+    /// What is known of a schema with these types and directives. Fails if memory runs out.
     pub fn new(
         alloc: Global,
         types: &IndexMap<Name, ExtendedType>,
@@ -55,7 +55,7 @@ impl SchemaInputs {
         Ok(SchemaInputs { types, directives })
     }
 
-    /// What is known of the arguments of the one of these directives that has that name.
+    /// What is known of the arguments of the directive of that name.
     pub fn of_directive(
         &self,
         directives: &IndexMap<Name, Node<DirectiveDefinition>>,
@@ -70,7 +70,7 @@ impl SchemaInputs {
         }
     }
 
-    /// What is known of the arguments of the field of that name of the one of these types that has that name.
+    /// What is known of the arguments of the field of that name on the type of that name.
     pub fn of_field(
         &self,
         types: &IndexMap<Name, ExtendedType>,
@@ -89,7 +89,7 @@ impl SchemaInputs {
         }
     }
 
-    /// The one of these types that has that name, with what is known of it.
+    /// The type of that name, with what is known of it.
     pub fn type_named<'a>(
         &'a self,
         types: &'a IndexMap<Name, ExtendedType>,
@@ -123,7 +123,7 @@ fn type_at(known: &[KnownType], index: usize) -> Option<&KnownType>
     known.get(index)
 }
 
-/// What is kept of the arguments at that index.
+/// What is known of the arguments at that index.
 fn arguments_at(known: &[Option<KnownArguments>], index: usize) -> Option<&KnownArguments>
     ensures { IfSome result (λ r. slice_get known.now index ≡ Some (Some r.now)) }
 {
@@ -147,7 +147,7 @@ impl KnownType {
     }
 }
 
-/// What is known of the arguments of the field of that name, where this is known of the fields.
+/// What is known of the arguments of the field of that name; `known` is what is known of all fields.
 fn of_field<'a>(
     known: &'a [Option<KnownArguments>],
     fields: &IndexMap<Name, Component<FieldDefinition>>,

@@ -1,4 +1,4 @@
-//! What is kept of the arguments and the input fields that a schema defines, where they are many.
+//! What is kept of the arguments and the input fields that a schema defines, if they are many.
 ghost use Rattle.std.specs.Prelude.{◌≡◌, ◌++◌, [], map, IfOk, OnOk, IfSome};
 ghost use Rattle.graphql_names.specs.Placed.{node_tree};
 ghost use Rattle.tree_directives.specs.DirectiveTree.{input_value_tree, input_value_trees, directive_definition_tree};
@@ -18,22 +18,22 @@ use std::alloc::{AllocError, Global};
 use tree_directives::{DirectiveDefinition, InputValueDefinition};
 use tree_type_members::FieldDefinition;
 
-/// So many arguments or input fields are scanned at each use.
+/// Up to this many arguments or input fields are scanned at each use.
 pub const FEW: usize = 8;
 
-/// Many arguments that are defined together.
+/// What is known of the many arguments of one field or directive.
 pub struct KnownArguments {
-    /// Of each name the index of the first that has it.
+    /// Under each name the index of the first argument with that name.
     pub(crate) numbers: IndexMap<Name, usize>,
-    /// Those that are required, in order.
+    /// The required arguments, in order.
     pub(crate) required: Vec<Node<InputValueDefinition>>,
 }
 
-/// What a type has of many input values.
+/// What is known of the arguments of a type's fields and of its input fields, if they are many.
 pub(crate) struct KnownType {
-    /// Of each of its fields, by the field's index, the arguments, where they are many. It is empty where no field has many.
+    /// What is known of each field's arguments, by the field's index, if they are many. It is empty if no field has many.
     pub(crate) arguments: Vec<Option<KnownArguments>>,
-    /// Of an input object that has many fields those that are required, in order.
+    /// The required fields of an input object that has many fields, in order.
     pub(crate) required: Option<Vec<(Name, Component<InputValueDefinition>)>>,
 }
 
@@ -56,7 +56,7 @@ impl Drop for KnownType {
     }
 }
 
-/// Of each name the index of the first of these definitions that has it.
+/// Under each name the index of the first of these definitions with that name.
 pub fn definition_numbers(
     alloc: Global,
     definitions: &[Node<InputValueDefinition>],
@@ -113,7 +113,7 @@ fn known_arguments(
     Ok(Some(KnownArguments { numbers, required }))
 }
 
-/// Of each of these directives the arguments.
+/// What is known of the arguments of each of these directives.
 pub(crate) fn known_directives(
     alloc: Global,
     definitions: &IndexMap<Name, Node<DirectiveDefinition>>,
@@ -127,7 +127,7 @@ pub(crate) fn known_directives(
     Ok(known)
 }
 
-/// Whether one of these fields takes many arguments. It is asked to save memory.
+/// Whether one of these fields takes many arguments. This is tested to save memory.
 fn some_takes_many(fields: &IndexMap<Name, Component<FieldDefinition>>) -> bool {
     for (_, field) in fields {
         if field.node.content().arguments.len() > FEW {
@@ -137,7 +137,7 @@ fn some_takes_many(fields: &IndexMap<Name, Component<FieldDefinition>>) -> bool 
     false
 }
 
-/// Of each of these fields the arguments, if they are many of one.
+/// What is known of the arguments of each of these fields, if one of them takes many.
 fn known_fields(
     alloc: Global,
     fields: &IndexMap<Name, Component<FieldDefinition>>,
@@ -151,7 +151,7 @@ fn known_fields(
     }
 }
 
-/// Of each of these fields the arguments.
+/// What is known of the arguments of each of these fields.
 fn known_each_field(
     alloc: Global,
     fields: &IndexMap<Name, Component<FieldDefinition>>,
@@ -195,7 +195,7 @@ fn required_fields(
     Ok(required)
 }
 
-/// Of an input object with these fields the required ones, if they are many.
+/// The required ones of these fields of an input object, if the fields are many.
 fn known_input_fields(
     alloc: Global,
     fields: &IndexMap<Name, Component<InputValueDefinition>>,

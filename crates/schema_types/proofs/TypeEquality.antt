@@ -5,10 +5,10 @@ use Rattle.graphql_names.specs.Node.{content, place}
 use Rattle.graphql_names.specs.declared.node.Node.{Node}
 use Rattle.graphql_names.specs.Placed.{Place, text_tree, unplaced_text}
 use Rattle.schema_components.specs.in_directives.DirectiveTree.{input_value_tree, unplaced_input_value}
-use Rattle.schema_components.proofs.in_values.Decided.{through, pair_decides, options_decide, name_decides, text_decides}
-use Rattle.schema_components.proofs.in_values.DirectiveEquality.{input_value_eq-Decides}
-use Rattle.tree_meaning.specs.in_type_members.TypeSystemTree.{field_definition_tree, unplaced_field_definition, enum_value_tree, unplaced_enum_value}
-use Rattle.tree_meaning.proofs.MemberEquality.{field_definition_eq-Decides, enum_value_eq-Decides}
+use Rattle.schema_components.proofs.in_operations.Decided.{through, pair_decides, options_decide, name_decides, text_decides}
+use Rattle.schema_components.proofs.in_operations.DirectiveEquality.{input_value_eq-Decides}
+use Rattle.spec_tree.specs.in_type_members.TypeSystemTree.{field_definition_tree, unplaced_field_definition, enum_value_tree, unplaced_enum_value}
+use Rattle.spec_tree.proofs.MemberEquality.{field_definition_eq-Decides, enum_value_eq-Decides}
 use Rattle.schema_components.specs.Given.{component_tree, component_name_tree, plain_given, given_name}
 use Rattle.schema_components.proofs.NamedEquality.{maps_decide, sets_decide}
 use Rattle.schema_components.proofs.ComponentEquality.{component_text, component_name_eq-Decides, directives_eq-Decides}

@@ -1,4 +1,4 @@
--- What the places of a schema are called, wherever they are written: rules tell addresses, and the place of a fault is looked up.
+-- Addresses of the parts of a schema, wherever they are written: rules tell addresses, and the place of a fault is looked up from them.
 use Rattle.std.specs.Prelude.{ℕ, Bool, false, List, [], map, Option, None, slice_get}
 use Rattle.std.specs.List.{find}
 use Rattle.std.specs.Option.{option_map, option_map_or}
@@ -9,14 +9,14 @@ use Rattle.schema_components.specs.in_literals.TypeTree.{TypeTree, NamedTree, No
 use Rattle.schema_components.specs.in_directives.DirectiveTree.{DirectiveTree, Directives, ArgumentTree, InputValueTree, InputValues, DirectiveDefinitionTree}
 use Rattle.schema_components.specs.in_operations.in_directives.declared.operation_type.OperationType.{OperationType}
 use Rattle.schema_components.specs.in_operations.in_directives.declared.operation_type.OperationType.TheVariants as operation
-use Rattle.tree_meaning.specs.in_type_members.TypeSystemTree.{FieldDefinitionTree, EnumValueTree}
+use Rattle.spec_tree.specs.in_type_members.TypeSystemTree.{FieldDefinitionTree, EnumValueTree}
 use Rattle.schema_components.specs.Names.{Entries}
 use Rattle.schema_components.specs.Given.{Given, given_name}
 use Rattle.schema_components.specs.Applied.{Applied}
 use Rattle.schema_types.specs.SchemaTree.{SchemaType, SchemaTree}
 
 pub data Address : Type 0 where
-  -- the schema definition, and the name of a root
+  -- the schema definition, and the name of its root for an operation
   SchemaAt : Address
   RootAt : OperationType → Address
   -- definitions by name
@@ -25,23 +25,23 @@ pub data Address : Type 0 where
   -- the names that a type lists
   ImplementsAt : (type interface : List ℕ) → Address
   MemberAt : (type member : List ℕ) → Address
-  -- what a type has by name
+  -- the fields, values and input fields of a type, by name
   FieldAt : (type field : List ℕ) → Address
   ValueAt : (type value : List ℕ) → Address
   InputAt : (type field : List ℕ) → Address
   -- the argument definition at an index of a field or directive definition
   ArgumentAt : (holder : Address) (index : ℕ) → Address
-  -- the name of what stands there; the reference to its type, where that has a place, and the name inside it; its default value
+  -- of the definition at an address: its name; its type reference, if that has a place, and the name inside it; its default value
   NameAt : (holder : Address) → Address
   TypeReferenceAt : (holder : Address) → Address
   TypeNameAt : (holder : Address) → Address
   DefaultAt : (holder : Address) → Address
-  -- the directive that is applied there at an index; the argument that is given to it at an index, and that argument's value
+  -- the directive that is applied at an address, by its index; the argument that is given to it, by its index, and that argument's value
   DirectiveAt : (holder : Address) (index : ℕ) → Address
   GivenAt : (directive : Address) (index : ℕ) → Address
   GivenValueAt : (given : Address) → Address
 
--- what stands first under the name
+-- the first value under the name
 abbrev pub under : {V : Type 0} → List ℕ → Entries V → Option V
 under n es = option_map (λ e. e.1) (find (λ e. bytes_eq n e.0) es)
 
@@ -62,11 +62,11 @@ module _ (s : SchemaTree Place) where
   abbrev pub type_at : List ℕ → Option (SchemaType Place)
   type_at n = under n s.types
 
-  -- what is under a name in a type
+  -- what the type named n has under the name m
   abbrev pub in_type : {V : Type 0} → (SchemaType Place → Entries (Given Place V)) → List ℕ → List ℕ → Option V
   in_type of n m = or_nothing (option_map (λ t. option_map (λ g. g.it) (under m (of t))) (type_at n))
 
-  -- the name that a type lists
+  -- the name m as the type named n lists it
   abbrev pub listed : (SchemaType Place → List (Given Place (Text Place))) → List ℕ → List ℕ → Option (Text Place)
   listed of n m = or_nothing (option_map (λ t. option_map (λ g. g.it) (find (λ g. bytes_eq m (given_name g)) (of t))) (type_at n))
 
@@ -87,13 +87,13 @@ module _ (s : SchemaTree Place) where
   root_at operation.Mutation = option_map (λ g. g.it) s.definition.mutation
   root_at operation.Subscription = option_map (λ g. g.it) s.definition.subscription
 
-  -- the argument definitions that stand there
+  -- the argument definitions of the definition at an address
   abbrev pub arguments_at : Address → InputValues Place
   arguments_at (DirectiveDefinitionAt n) = option_map_or (λ d. d.it.arguments) (directive_definition_at n) []
   arguments_at (FieldAt n m) = option_map_or (λ f. f.it.arguments) (field_at n m) []
   arguments_at _ = []
 
-  -- the argument definition or input field that stands there
+  -- the argument definition or input field at an address
   abbrev pub input_value_at : Address → Option (Placed Place (InputValueTree Place))
   input_value_at (ArgumentAt holder i) = slice_get (arguments_at holder) i
   input_value_at (InputAt n m) = input_at n m
@@ -102,7 +102,7 @@ module _ (s : SchemaTree Place) where
   abbrev pub applied : Applied Place → Directives Place
   applied ds = map (λ g. g.it) ds
 
-  -- the directives that are applied there
+  -- the directives that are applied at an address
   abbrev pub directives_at : Address → Directives Place
   directives_at SchemaAt = applied s.definition.directives
   directives_at (DirectiveDefinitionAt n) = option_map_or (λ d. d.it.directives) (directive_definition_at n) []
@@ -121,7 +121,7 @@ module _ (s : SchemaTree Place) where
   given_at (GivenAt d i) = or_nothing (option_map (λ x. slice_get x.it.arguments i) (directive_at d))
   given_at _ = None
 
-  -- the place of the name of what stands there
+  -- the place of the name of the definition at an address
   abbrev pub name_place : Address → Place
   name_place (DirectiveDefinitionAt n) = or_nothing (option_map (λ d. d.it.name.place) (directive_definition_at n))
   name_place (TypeAt n) = or_nothing (option_map (λ t. t.name.place) (type_at n))
@@ -131,12 +131,12 @@ module _ (s : SchemaTree Place) where
   name_place (ArgumentAt holder i) = or_nothing (option_map (λ v. v.it.name.place) (slice_get (arguments_at holder) i))
   name_place _ = None
 
-  -- the place of the name inside the type of what stands there
+  -- the place of the name inside the type of the definition at an address
   abbrev pub type_name_place : Address → Place
   type_name_place (FieldAt n m) = or_nothing (option_map (λ f. inner_name_place f.it.ty) (field_at n m))
   type_name_place a = or_nothing (option_map (λ v. inner_name_place v.it.ty.it) (input_value_at a))
 
-  -- where it is written
+  -- the place of what is at an address
   abbrev pub place_at : Address → Place
   place_at SchemaAt = s.definition.place
   place_at (RootAt operation) = place_of (root_at operation)
@@ -156,7 +156,7 @@ module _ (s : SchemaTree Place) where
   place_at (GivenAt d i) = place_of (given_at (GivenAt d i))
   place_at (GivenValueAt g) = or_nothing (option_map (λ x. x.it.value.place) (given_at g))
 
-  -- the marks: whether it is a built-in type or directive definition, or a field, argument, value or input field of one
+  -- the mark of an address: whether it is of a built-in type or directive definition, or of a field, argument, value or input field of one
   abbrev pub is_marked : Address → Bool
   is_marked (DirectiveDefinitionAt n) = is_built_in (place_at (DirectiveDefinitionAt n))
   is_marked (TypeAt n) = is_built_in (place_at (TypeAt n))

@@ -9,13 +9,13 @@ use Rattle.schema_components.specs.in_directives.DirectiveTree.{InputValueTree}
 use Rattle.schema_components.specs.in_directives.declared.directive_location.DirectiveLocation.{DirectiveLocation}
 use Rattle.schema_components.specs.in_directives.declared.directive_location.DirectiveLocation.TheVariants as at
 use Rattle.schema_types.specs.in_type_members.TypeSystemTree.{FieldDefinitionTree, EnumValueTree}
-use Rattle.tree_meaning.specs.DefinitionTree.{DefinitionTree, DirectiveDefinition, ScalarType, ObjectType, EnumType}
+use Rattle.spec_tree.specs.DefinitionTree.{DefinitionTree, DirectiveDefinition, ScalarType, ObjectType, EnumType}
 
 -- the place of what is built in: file 0, offset 0, length 0
 abbrev pub built_in : Place
 built_in = Some (record { file_id = record { 0 = 0 }; offset = 0; length = 0; fits = lit< tt })
 
--- something at that place
+-- a value at that place
 abbrev pub here : {A : Type 0} → A → Placed Place A
 here x = record { it = x; place = built_in }
 

@@ -11,6 +11,5 @@ pub mod Addresses
 pub mod Distinct
 pub mod BuiltIn
 pub use Rattle.schema_components.specs as in_components
-pub use Rattle.tree_meaning.specs.in_type_members as in_type_members
-pub use Rattle.schema_components.specs.in_values as in_values
+pub use Rattle.spec_tree.specs.in_type_members as in_type_members
 pub use Rattle.schema_components.specs.in_operations as in_operations

@@ -1,15 +1,15 @@
--- A schema as look-ups by name, without places, origins and order: all that a rule reads of a schema. Of equal schemas they are the same.
+-- A schema as lookups by name, without places, origins and order: all that a rule reads of a schema. They are the same for equal schemas.
 use Rattle.std.specs.Prelude.{ℕ, Bool, List, Option}
 use Rattle.std.specs.Option.{option_map}
 use Rattle.std.specs.FinMap as fin
 use Rattle.std.specs.FinSet as set
 use Rattle.graphql_names.specs.Placed.{Text}
 use Rattle.schema_components.specs.in_directives.DirectiveTree.{DirectiveTree, InputValueTree, DirectiveDefinitionTree}
-use Rattle.tree_meaning.specs.in_type_members.TypeSystemTree.{FieldDefinitionTree, EnumValueTree}
+use Rattle.spec_tree.specs.in_type_members.TypeSystemTree.{FieldDefinitionTree, EnumValueTree}
 use Rattle.schema_types.specs.Plain.{PlainType, PlainRoots, PlainSchema}
 use Rattle.schema_types.specs.declared.type_kind.TypeKind.{TypeKind}
 
--- a type: which names it implements and has as members, and what it has under a name
+-- a type: which interfaces and which members it lists, and what it has under a name
 pub record TypeLooks : Type 0 where
   pub kind : TypeKind
   pub description : Option (Text (Unit {0}))

@@ -1,4 +1,4 @@
--- Where the components of a type or of a schema come from, in order: applied directives, then interfaces, then fields, members, values
+-- The origins of the components of a type or of a schema, in order: of applied directives, then interfaces, then fields, members, values
 -- or roots.
 use Rattle.std.specs.Prelude.{List, [], ◌∷◌, ◌++◌, map, Option, None, option_to_list}
 use Rattle.std.specs.List.{flat_map}
@@ -7,8 +7,8 @@ use Rattle.indexmap.specs.IndexMap.{values}
 use Rattle.graphql_names.specs.Node.{content}
 use Rattle.schema_components.specs.in_directives.declared.directive.Directive.{Directive}
 use Rattle.schema_components.specs.in_directives.declared.input_value.InputValueDefinition.{InputValueDefinition}
-use Rattle.tree_meaning.specs.in_type_members.declared.field_definition.FieldDefinition.{FieldDefinition}
-use Rattle.tree_meaning.specs.in_type_members.declared.enum_value.EnumValueDefinition.{EnumValueDefinition}
+use Rattle.spec_tree.specs.in_type_members.declared.field_definition.FieldDefinition.{FieldDefinition}
+use Rattle.spec_tree.specs.in_type_members.declared.enum_value.EnumValueDefinition.{EnumValueDefinition}
 use Rattle.schema_components.specs.Lists.{firsts}
 use Rattle.schema_components.specs.Given.{extension_id, number_of}
 use Rattle.schema_components.specs.declared.extension.ExtensionId.{ExtensionId}
@@ -34,7 +34,7 @@ origin_of c = c.origin
 abbrev pub name_origins : List ComponentName → List ComponentOrigin
 name_origins cs = map origin_of cs
 
--- those of applied directives, of roots, and of what a kind has
+-- the origins of applied directives, of roots, and of the components that types of a kind have
 abbrev pub origins_of : List (Component Directive) → Option ComponentOrigin → Option ComponentOrigin → Option ComponentOrigin → List ComponentName → List (Component FieldDefinition) → List (Component EnumValueDefinition) → List (Component InputValueDefinition) → List ComponentOrigin
 origins_of directives query mutation subscription names fields values inputs =
     component_origins directives ++ (option_to_list query ++ (option_to_list mutation ++ (option_to_list subscription
@@ -69,6 +69,6 @@ type_origins (rust.InputObject t) = input_object_origins (content t)
 abbrev pub schema_origins : SchemaDefinition → List ComponentOrigin
 schema_origins s = origins_of s.directives.0.items (option_map origin_of s.query) (option_map origin_of s.mutation) (option_map origin_of s.subscription) [] [] [] []
 
--- the extensions among these, each once, by first appearance
+-- the extensions among these origins, each once, in the order of first appearance
 abbrev pub extensions_in : List ComponentOrigin → List ExtensionId
 extensions_in os = firsts (λ e. number_of e ∷ []) (flat_map (λ o. option_to_list (extension_id o)) os)

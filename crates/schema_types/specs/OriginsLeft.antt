@@ -1,4 +1,4 @@
--- What the iterators over origins and roots have still to give.
+-- What the iterators over origins and roots have still to yield.
 use Rattle.std.specs.Prelude.{List, [], ◌∷◌, ◌++◌, ◌==◌, if◌then◌else◌, Option, option_to_list}
 use Rattle.std.specs.List.{list_any}
 use Rattle.std.specs.Option.{option_map}
@@ -18,7 +18,7 @@ use Rattle.schema_types.specs.declared.schema_definition.SchemaDefinition.{Schem
 abbrev pub left_origins : Origins → List ComponentOrigin
 left_origins o = origins_of o.directives.now o.query o.mutation o.subscription o.names.now o.fields.now o.values.now o.inputs.now
 
--- the noted extensions and this one, if it is one that is not noted yet
+-- the noted extensions, with that of the origin, if it is one that is not noted yet
 abbrev pub noted : List ExtensionId → ComponentOrigin → List ExtensionId
 noted ids Definition = ids
 noted ids (Extension id) = if list_any (λ e. number_of id == number_of e) ids then ids else ids ++ id ∷ []
@@ -27,7 +27,7 @@ noted ids (Extension id) = if list_any (λ e. number_of id == number_of e) ids t
 abbrev pub root_of : OperationType → Option ComponentName → List (OperationType × ComponentName)
 root_of operation root = option_to_list (option_map (λ c. (operation, c)) root)
 
--- the roots that are there, in the order query, mutation, subscription
+-- the roots of a schema definition, in the order query, mutation, subscription
 abbrev pub roots_in : SchemaDefinition → List (OperationType × ComponentName)
 roots_in s = root_of operation.Query s.query ++ (root_of operation.Mutation s.mutation ++ root_of operation.Subscription s.subscription)
 

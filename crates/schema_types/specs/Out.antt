@@ -5,12 +5,12 @@ use Rattle.std.specs.Option.{option_map_or}
 use Rattle.std.specs.Str.{bytes_eq}
 use Rattle.graphql_names.specs.Places.{is_built_in}
 use Rattle.graphql_names.specs.Placed.{Placed, Place, Text}
-use Rattle.schema_components.specs.in_values.OperationQueries.{default_root_name}
+use Rattle.schema_components.specs.in_operations.OperationQueries.{default_root_name}
 use Rattle.schema_components.specs.in_directives.DirectiveTree.{DirectiveDefinitionTree}
 use Rattle.schema_components.specs.in_operations.in_directives.declared.operation_type.OperationType.{OperationType}
 use Rattle.schema_components.specs.in_operations.in_directives.declared.operation_type.OperationType.TheVariants as operation
-use Rattle.tree_meaning.specs.in_type_members.TypeSystemTree.{RootOperationTree, SchemaParts}
-use Rattle.tree_meaning.specs.DefinitionTree.{DefinitionTree, DirectiveDefinition, Schema, ExtendSchema}
+use Rattle.spec_tree.specs.in_type_members.TypeSystemTree.{RootOperationTree, SchemaParts}
+use Rattle.spec_tree.specs.DefinitionTree.{DefinitionTree, DirectiveDefinition, Schema, ExtendSchema}
 use Rattle.schema_components.specs.Names.{Entries}
 use Rattle.schema_components.specs.Lists.{firsts}
 use Rattle.schema_components.specs.Given.{Given, ExtensionTree}
@@ -23,7 +23,7 @@ is_empty [] = true
 is_empty (x ∷ xs) = false
 
 module _ {P : Type 0} where
-  -- the extensions among these, each once, by first appearance
+  -- these extensions, each once, in the order of first appearance
   abbrev pub each_once : List (ExtensionTree P) → List (ExtensionTree P)
   each_once = firsts (λ e. e.number ∷ [])
 
@@ -34,7 +34,7 @@ module _ {P : Type 0} where
   abbrev pub entries_givers : {A : Type 0} → Entries (Given P A) → List (ExtensionTree P)
   entries_givers es = flat_map (λ e. option_to_list e.1.extension) es
 
-  -- both are the definition, or both the extension of one number
+  -- whether both are the definition, or both are extensions of the same number
   abbrev pub same_giver : Option (ExtensionTree P) → Option (ExtensionTree P) → Bool
   same_giver None None = true
   same_giver (Some e) (Some f) = e.number == f.number
@@ -49,7 +49,7 @@ module _ {P : Type 0} where
 
   -- ---- types
 
-  -- the extensions of a type, in the order in which they first appear among directives, then interfaces, then fields, members or values
+  -- the extensions of a type, in the order in which they first appear among directives, then interfaces, then fields, members, values or input fields
   abbrev pub extensions_of_type : SchemaType P → List (ExtensionTree P)
   extensions_of_type t = each_once (givers t.directives ++ givers t.interfaces ++ entries_givers t.fields ++ givers t.members ++ entries_givers t.values ++ entries_givers t.inputs)
 
@@ -74,7 +74,7 @@ module _ {P : Type 0} where
 
   -- ---- the schema definition
 
-  -- a root, as it is written; no place was kept of the pair of operation and name
+  -- a root as it is written, if the definition or that extension gave it; the pair of operation and name has no place that was kept
   abbrev pub root_given_by : P → Option (ExtensionTree P) → OperationType → Option (Given P (Text P)) → List (Placed P (RootOperationTree P))
   root_given_by nowhere giver operation root = map (λ name. record { it = record { operation_type = operation; name = name }; place = nowhere }) (given_by giver (option_to_list root))
 
@@ -91,12 +91,12 @@ module _ {P : Type 0} where
   abbrev pub is_object_named : Entries (SchemaType P) → List ℕ → Bool
   is_object_named types name = option_map_or (λ e. same_kind e.1.kind Object) (find (λ e. bytes_eq name e.0) types) false
 
-  -- the root is the implicit one: the object with the default name, and there is none where there is no such object (section 3.3.1)
+  -- whether the root is the implicit one: the object with the default name, or none if there is no such object (section 3.3.1)
   abbrev pub is_implicit_root : Entries (SchemaType P) → OperationType → Option (Given P (Text P)) → Bool
   is_implicit_root types operation None = not (is_object_named types (default_root_name operation))
   is_implicit_root types operation (Some g) = bytes_eq g.it.it (default_root_name operation) && is_object_named types (default_root_name operation)
 
-  -- the schema definition is left out: no description, directives or extensions, the roots are the implicit ones, and there is a query root
+  -- whether the schema definition is left out: it has no description, directives or extensions, its roots are the implicit ones, and one is for queries
   abbrev pub is_left_out : SchemaTree P → Bool
   is_left_out s =
       is_none s.definition.description && is_empty s.definition.directives && is_empty (extensions_of_schema s.definition)

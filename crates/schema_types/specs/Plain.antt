@@ -1,9 +1,9 @@
--- A schema without places, origins and the order of what has names. Applied directives and arguments are in order.
+-- A schema without places, origins and the order of its maps and sets. Applied directives and arguments are in order.
 use Rattle.std.specs.Prelude.{ℕ, List, Option}
 use Rattle.std.specs.Option.{option_map}
 use Rattle.graphql_names.specs.Placed.{Text, Placed, unplaced_text}
 use Rattle.schema_components.specs.in_directives.DirectiveTree.{DirectiveTree, InputValueTree, DirectiveDefinitionTree, unplaced_input_value, unplaced_directive_definition}
-use Rattle.tree_meaning.specs.in_type_members.TypeSystemTree.{FieldDefinitionTree, EnumValueTree, unplaced_field_definition, unplaced_enum_value}
+use Rattle.spec_tree.specs.in_type_members.TypeSystemTree.{FieldDefinitionTree, EnumValueTree, unplaced_field_definition, unplaced_enum_value}
 use Rattle.schema_components.specs.Names.{NamedMap, Names, named, names}
 use Rattle.schema_components.specs.Given.{plain_given, given_name}
 use Rattle.schema_components.specs.Applied.{unplaced_applied}
@@ -59,7 +59,7 @@ module _ {P : Type 0} where
   abbrev pub plain_directive_definition : Placed P (DirectiveDefinitionTree P) → DirectiveDefinitionTree (Unit {0})
   plain_directive_definition d = unplaced_directive_definition d.it
 
-  -- two schemas are equal where this is the same of both
+  -- two schemas are equal when `plain` of both is the same
   abbrev pub plain : SchemaTree P → PlainSchema
   plain s = record {
     definition = plain_roots s.definition;

@@ -2,7 +2,7 @@
 use Rattle.std.specs.Prelude.{ℕ, Bool, ◌==◌, ◌||◌, not, List, Option, codes}
 use Rattle.graphql_names.specs.Placed.{Placed, Text}
 use Rattle.schema_components.specs.in_directives.DirectiveTree.{InputValueTree, DirectiveDefinitionTree}
-use Rattle.tree_meaning.specs.in_type_members.TypeSystemTree.{FieldDefinitionTree, EnumValueTree}
+use Rattle.spec_tree.specs.in_type_members.TypeSystemTree.{FieldDefinitionTree, EnumValueTree}
 use Rattle.schema_components.specs.Names.{Entries}
 use Rattle.schema_components.specs.Given.{Given}
 use Rattle.schema_components.specs.Applied.{Applied}
@@ -40,7 +40,7 @@ kind_words Union = codes "a union type"
 kind_words Enum = codes "an enum type"
 kind_words InputObject = codes "an input object type"
 
--- a type of any kind: its interfaces, fields, members, values and input fields are empty where its kind has none
+-- a type of any kind: its interfaces, fields, members, values and input fields are empty if its kind has none
 pub record SchemaType (P : Type 0) : Type 0 where
   pub kind : TypeKind
   pub place : P
@@ -53,7 +53,7 @@ pub record SchemaType (P : Type 0) : Type 0 where
   pub values : Entries (Given P (Placed P (EnumValueTree P)))
   pub inputs : Entries (Given P (Placed P (InputValueTree P)))
 
--- the schema definition: its roots are those that are there
+-- the schema definition; a root that it does not have is `None`
 pub record SchemaRoots (P : Type 0) : Type 0 where
   pub place : P
   pub description : Option (Text P)

@@ -20,7 +20,7 @@ types_view types = entries_of name_text extended_type types
 abbrev pub definitions_view : {S : Type 0} → IndexMap NameValue (Node DirectiveDefinition) S → Entries (Placed Place (DirectiveDefinitionTree Place))
 definitions_view directives = entries_of name_text (node_tree directive_definition_tree) directives
 
--- a schema of which these are the parts
+-- a schema with these parts
 abbrev pub schema_view : {S R : Type 0} → Node SchemaDefinition → IndexMap NameValue (Node DirectiveDefinition) S → IndexMap NameValue ExtendedType R → SchemaTree Place
 schema_view definition directives types = record {
   definition = schema_roots definition;

@@ -2,13 +2,13 @@
 use Rattle.std.specs.Prelude.{List, [], Option, None, Some}
 use Rattle.graphql_names.specs.Placed.{Placed, Text}
 use Rattle.schema_components.specs.in_directives.DirectiveTree.{Directives, InputValues}
-use Rattle.tree_meaning.specs.in_type_members.TypeSystemTree.{FieldDefinitionTree, EnumValueTree, ScalarParts, FieldsParts, UnionParts, EnumParts, InputObjectParts}
-use Rattle.tree_meaning.specs.DefinitionTree as tree
-use Rattle.tree_meaning.specs.DefinitionTree.{DefinitionTree}
+use Rattle.spec_tree.specs.in_type_members.TypeSystemTree.{FieldDefinitionTree, EnumValueTree, ScalarParts, FieldsParts, UnionParts, EnumParts, InputObjectParts}
+use Rattle.spec_tree.specs.DefinitionTree as tree
+use Rattle.spec_tree.specs.DefinitionTree.{DefinitionTree}
 use Rattle.schema_types.specs.declared.type_kind.TypeKind.{TypeKind}
 use Rattle.schema_types.specs.declared.type_kind.TypeKind.TheVariants.{Scalar, Object, Interface, Union, Enum, InputObject}
 
--- interfaces, fields, members, values and input fields are empty where the kind has none
+-- interfaces, fields, members, values and input fields are empty if the kind has none
 pub record TypeParts (P : Type 0) : Type 0 where
   pub kind : TypeKind
   pub name : Text P
@@ -26,7 +26,7 @@ pub record TypeDefinition (P : Type 0) : Type 0 where
   pub parts : TypeParts P
 
 module _ {P : Type 0} where
-  -- a name and directives alone
+  -- parts with a name and directives alone
   abbrev pub bare : TypeKind → Text P → Directives P → TypeParts P
   bare kind name directives = record { kind = kind; name = name; directives = directives; interfaces = []; fields = []; members = []; values = []; inputs = [] }
 
@@ -45,7 +45,7 @@ module _ {P : Type 0} where
   abbrev pub input_object : InputObjectParts P → TypeParts P
   input_object t = record (bare InputObject t.name t.directives) { inputs = t.fields }
 
-  -- the type that is defined here
+  -- the type that is defined here, if one is
   abbrev pub type_here : DefinitionTree P → Option (TypeDefinition P)
   type_here (tree.ScalarType p d t) = Some (record { place = p; description = d; parts = scalar t })
   type_here (tree.ObjectType p d t) = Some (record { place = p; description = d; parts = with_fields Object t })
@@ -55,7 +55,7 @@ module _ {P : Type 0} where
   type_here (tree.InputObjectType p d t) = Some (record { place = p; description = d; parts = input_object t })
   type_here _ = None
 
-  -- what the extension of a type here gives
+  -- the parts of the type extension here, if there is one
   abbrev pub type_extension_here : DefinitionTree P → Option (TypeParts P)
   type_extension_here (tree.ExtendScalar p t) = Some (scalar t)
   type_extension_here (tree.ExtendObject p t) = Some (with_fields Object t)

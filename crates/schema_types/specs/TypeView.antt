@@ -6,7 +6,7 @@ use Rattle.graphql_names.specs.Node.{content, place}
 use Rattle.graphql_names.specs.declared.node.Node.{Node}
 use Rattle.graphql_names.specs.Placed.{Place, name_tree, text_tree}
 use Rattle.schema_components.specs.in_directives.DirectiveTree.{input_value_tree}
-use Rattle.tree_meaning.specs.in_type_members.TypeSystemTree.{field_definition_tree, enum_value_tree}
+use Rattle.spec_tree.specs.in_type_members.TypeSystemTree.{field_definition_tree, enum_value_tree}
 use Rattle.schema_components.specs.Names.{entries_of}
 use Rattle.schema_components.specs.Given.{component_tree, component_name_tree}
 use Rattle.schema_components.specs.Applied.{applied_tree}

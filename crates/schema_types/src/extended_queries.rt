@@ -1,4 +1,4 @@
-//! What can be asked of a type of any kind.
+//! Queries on a type of any kind.
 ghost use Rattle.std.specs.Prelude.{◌≡◌, ◌||◌, not, codes};
 ghost use Rattle.std.specs.Option.{option_map};
 ghost use Rattle.graphql_names.specs.Places.{is_built_in};

@@ -1,6 +1,6 @@
 //! A type as one of its kinds.
 ghost use Rattle.std.specs.Prelude.{◌≡◌};
-ghost use Rattle.tree_meaning.specs.Queries.{IsContentOf};
+ghost use Rattle.spec_tree.specs.Queries.{IsContentOf};
 ghost use Rattle.schema_types.specs.SchemaTree.{same_kind};
 ghost use Rattle.schema_types.specs.TypeView.{extended_type};
 ghost use Rattle.schema_types.specs.declared.type_kind.TypeKind.TheVariants as kind;
@@ -54,7 +54,7 @@ impl ExtendedType {
     }
 }
 
-/// The content, where the type is of that kind, and `None` for every other.
+/// The node of the type if it is of that kind, and `None` for every other.
 impl ExtendedType {
     /// The node of a scalar type.
     pub fn as_scalar(&self) -> Option<&Node<ScalarType>>

@@ -1,12 +1,12 @@
 //! The types of each kind. Equality ignores places, origins and the order of fields, values, members and interfaces.
 //!
-//! Each has a `drop` of its own, which is proved here once; a derived one would be proved again in each crate above that
-//! lets a schema go. So no field moves out of one of them: it is lent, shared or replaced.
+//! Each has its own `drop`, which is proved here once; a derived one would be proved again in each crate above that
+//! drops a schema. So no field moves out of one of them: it is lent, shared or replaced.
 
 use graphql_names::{Name, NodeStr};
 use indexmap::{IndexMap, IndexSet};
 use schema_components::{Component, ComponentName, DirectiveList, InputValueDefinition};
-use tree_meaning::{EnumValueDefinition, FieldDefinition};
+use spec_tree::{EnumValueDefinition, FieldDefinition};
 
 /// A scalar type (section 3.5).
 #[derive(PartialEq, Eq)]

@@ -28,5 +28,5 @@ pub use schema_components::{
 };
 pub use schema_definition::SchemaDefinition;
 pub use shared::{node_at, shared_description};
-pub use tree_meaning::{EnumValueDefinition, FieldDefinition};
+pub use spec_tree::{EnumValueDefinition, FieldDefinition};
 pub use type_kind::TypeKind;

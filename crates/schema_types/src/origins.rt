@@ -1,4 +1,4 @@
-//! Where components come from, given in order.
+//! The origins of components, in order.
 ghost use Rattle.std.specs.Prelude.{◌≡◌, IfOk, OnOk};
 ghost use Rattle.std.specs.Iterator.{YieldsFirst, item_count};
 ghost use Rattle.schema_types.specs.Origins.{component_origins, extensions_in};
@@ -8,12 +8,12 @@ use indexmap::IndexSet;
 use schema_components::{
     Component, ComponentName, ComponentOrigin, Directive, ExtensionId, InputValueDefinition,
 };
+use spec_tree::{EnumValueDefinition, FieldDefinition};
 use std::alloc::{AllocError, Global};
-use tree_meaning::{EnumValueDefinition, FieldDefinition};
 
-/// Where the components that are left come from: applied directives, then roots, then interfaces or members,
+/// The origins of the components that are left: applied directives, then roots, then interfaces or members,
 /// then fields, values or input fields.
-// One form for the schema and all kinds of types, where what a kind lacks is empty: so one iterator is proved.
+// One form for the schema and all kinds of types; what a kind lacks is empty in it. So one iterator is proved.
 #[derive(Drop)]
 pub struct Origins<'a> {
     pub(crate) directives: &'a [Component<Directive>],
@@ -27,7 +27,7 @@ pub struct Origins<'a> {
 }
 
 impl<'a> Origins<'a> {
-    /// The extensions among them, each once, by first appearance.
+    /// The extensions among the origins, each once, in the order of first appearance.
     #[tactic(auto, using(crate::proofs::Noted::noted_push))]
     pub fn extensions(self, alloc: Global) -> Result<IndexSet<ExtensionId>, AllocError>
         ensures { IfOk result (λ s. s.keys ≡ extensions_in (left_origins self.entry)) }
@@ -74,7 +74,7 @@ impl<'a> Iterator for Origins<'a> {
     }
 }
 
-/// Takes the first component off, and tells where it comes from.
+/// Removes the first component, and returns its origin.
 fn next_component<'a, T>(components: &mut &'a [Component<T>]) -> Option<ComponentOrigin>
     ensures { YieldsFirst (λ cs. component_origins cs.now) components.old result components.new }
 {
@@ -83,7 +83,7 @@ fn next_component<'a, T>(components: &mut &'a [Component<T>]) -> Option<Componen
     Some(first.origin)
 }
 
-/// Notes the extension, if it is one that is not noted yet.
+/// Notes the extension, if the origin is one that is not noted yet.
 fn note_extension(
     ids: &mut IndexSet<ExtensionId>,
     origin: ComponentOrigin,

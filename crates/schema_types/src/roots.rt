@@ -1,4 +1,4 @@
-//! The roots of a schema, given in order.
+//! The roots of a schema, in order.
 ghost use Rattle.std.specs.Iterator.{YieldsFirstBy, item_count};
 ghost use Rattle.schema_types.specs.OriginsLeft.{left_roots, lent_root};
 

@@ -21,7 +21,7 @@ pub struct SchemaDefinition {
     pub subscription: Option<ComponentName>,
 }
 
-/// As for the types of each kind: proved here once, and not again in each crate above.
+/// As for the types of each kind, this drop is proved here once, and not again in each crate above.
 impl Drop for SchemaDefinition {
     fn drop(self) {
         let SchemaDefinition {
@@ -35,7 +35,7 @@ impl Drop for SchemaDefinition {
 }
 
 impl SchemaDefinition {
-    /// The roots that are there, in the order query, mutation, subscription.
+    /// The roots that the schema has, in the order query, mutation, subscription.
     pub fn iter_root_operations(&self) -> RootOperations<'_>
         ensures { left_roots result ≡ roots_in self.now }
     {
@@ -46,7 +46,7 @@ impl SchemaDefinition {
         }
     }
 
-    /// Where each component comes from: applied directives, then the roots.
+    /// The origin of each component: applied directives, then the roots.
     pub fn iter_origins(&self) -> Origins<'_>
         ensures { left_origins result ≡ schema_origins self.now }
     {
@@ -62,7 +62,7 @@ impl SchemaDefinition {
         }
     }
 
-    /// The extensions that gave a component, by first appearance.
+    /// The extensions that gave a component, in the order of first appearance.
     pub fn extensions(&self, alloc: Global) -> Result<IndexSet<ExtensionId>, AllocError>
         ensures { IfOk result (λ s. s.keys ≡ extensions_in (schema_origins self.now)) }
     {
@@ -70,7 +70,7 @@ impl SchemaDefinition {
     }
 }
 
-/// Where a root comes from, if it is there.
+/// The origin of a root, if there is one.
 fn origin_of(root: &Option<ComponentName>) -> Option<ComponentOrigin>
     ensures { result ≡ option_map origin_of root.now }
 {

@@ -29,7 +29,7 @@ impl TypeKind {
         )
     }
 
-    /// Whether it is the scalars or the enums.
+    /// Whether it is the kind of scalars or of enums.
     pub fn is_leaf(self) -> bool
         ensures { result ≡ is_leaf_kind self }
     {

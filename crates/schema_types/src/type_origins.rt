@@ -1,4 +1,4 @@
-//! Where the components of each type come from.
+//! The origins of the components of each type.
 ghost use Rattle.std.specs.Prelude.{◌≡◌, IfOk};
 ghost use Rattle.schema_types.specs.Origins.{scalar_origins, object_origins, interface_origins, union_origins, enum_origins, input_object_origins, type_origins, extensions_in};
 ghost use Rattle.schema_types.specs.OriginsLeft.{left_origins};
@@ -11,7 +11,7 @@ use schema_components::ExtensionId;
 use std::alloc::{AllocError, Global};
 
 impl ScalarType {
-    /// Where each component comes from, in order.
+    /// The origin of each component, in order.
     pub fn iter_origins(&self) -> Origins<'_>
         ensures { left_origins result ≡ scalar_origins self.now }
     {
@@ -27,7 +27,7 @@ impl ScalarType {
         }
     }
 
-    /// The extensions that gave a component, by first appearance.
+    /// The extensions that gave a component, in the order of first appearance.
     pub fn extensions(&self, alloc: Global) -> Result<IndexSet<ExtensionId>, AllocError>
         ensures { IfOk result (λ s. s.keys ≡ extensions_in (scalar_origins self.now)) }
     {
@@ -36,7 +36,7 @@ impl ScalarType {
 }
 
 impl ObjectType {
-    /// Where each component comes from, in order.
+    /// The origin of each component, in order.
     pub fn iter_origins(&self) -> Origins<'_>
         ensures { left_origins result ≡ object_origins self.now }
     {
@@ -52,7 +52,7 @@ impl ObjectType {
         }
     }
 
-    /// The extensions that gave a component, by first appearance.
+    /// The extensions that gave a component, in the order of first appearance.
     pub fn extensions(&self, alloc: Global) -> Result<IndexSet<ExtensionId>, AllocError>
         ensures { IfOk result (λ s. s.keys ≡ extensions_in (object_origins self.now)) }
     {
@@ -61,7 +61,7 @@ impl ObjectType {
 }
 
 impl InterfaceType {
-    /// Where each component comes from, in order.
+    /// The origin of each component, in order.
     pub fn iter_origins(&self) -> Origins<'_>
         ensures { left_origins result ≡ interface_origins self.now }
     {
@@ -77,7 +77,7 @@ impl InterfaceType {
         }
     }
 
-    /// The extensions that gave a component, by first appearance.
+    /// The extensions that gave a component, in the order of first appearance.
     pub fn extensions(&self, alloc: Global) -> Result<IndexSet<ExtensionId>, AllocError>
         ensures { IfOk result (λ s. s.keys ≡ extensions_in (interface_origins self.now)) }
     {
@@ -86,7 +86,7 @@ impl InterfaceType {
 }
 
 impl UnionType {
-    /// Where each component comes from, in order.
+    /// The origin of each component, in order.
     pub fn iter_origins(&self) -> Origins<'_>
         ensures { left_origins result ≡ union_origins self.now }
     {
@@ -102,7 +102,7 @@ impl UnionType {
         }
     }
 
-    /// The extensions that gave a component, by first appearance.
+    /// The extensions that gave a component, in the order of first appearance.
     pub fn extensions(&self, alloc: Global) -> Result<IndexSet<ExtensionId>, AllocError>
         ensures { IfOk result (λ s. s.keys ≡ extensions_in (union_origins self.now)) }
     {
@@ -111,7 +111,7 @@ impl UnionType {
 }
 
 impl EnumType {
-    /// Where each component comes from, in order.
+    /// The origin of each component, in order.
     pub fn iter_origins(&self) -> Origins<'_>
         ensures { left_origins result ≡ enum_origins self.now }
     {
@@ -127,7 +127,7 @@ impl EnumType {
         }
     }
 
-    /// The extensions that gave a component, by first appearance.
+    /// The extensions that gave a component, in the order of first appearance.
     pub fn extensions(&self, alloc: Global) -> Result<IndexSet<ExtensionId>, AllocError>
         ensures { IfOk result (λ s. s.keys ≡ extensions_in (enum_origins self.now)) }
     {
@@ -136,7 +136,7 @@ impl EnumType {
 }
 
 impl InputObjectType {
-    /// Where each component comes from, in order.
+    /// The origin of each component, in order.
     pub fn iter_origins(&self) -> Origins<'_>
         ensures { left_origins result ≡ input_object_origins self.now }
     {
@@ -152,7 +152,7 @@ impl InputObjectType {
         }
     }
 
-    /// The extensions that gave a component, by first appearance.
+    /// The extensions that gave a component, in the order of first appearance.
     pub fn extensions(&self, alloc: Global) -> Result<IndexSet<ExtensionId>, AllocError>
         ensures { IfOk result (λ s. s.keys ≡ extensions_in (input_object_origins self.now)) }
     {
@@ -161,7 +161,7 @@ impl InputObjectType {
 }
 
 impl ExtendedType {
-    /// Where each component comes from, in order.
+    /// The origin of each component, in order.
     pub fn iter_origins(&self) -> Origins<'_>
         ensures { left_origins result ≡ type_origins self.now }
     {
@@ -175,7 +175,7 @@ impl ExtendedType {
         }
     }
 
-    /// The extensions that gave a component, by first appearance.
+    /// The extensions that gave a component, in the order of first appearance.
     pub fn extensions(&self, alloc: Global) -> Result<IndexSet<ExtensionId>, AllocError>
         ensures { IfOk result (λ s. s.keys ≡ extensions_in (type_origins self.now)) }
     {

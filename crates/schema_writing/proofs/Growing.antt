@@ -19,11 +19,11 @@ use Rattle.schema_writing.specs.declared.parts.FiledType.{FiledType}
 use Rattle.schema_writing.specs.declared.parts.Parts.{Parts}
 
 -- a tree in the place of a content
-abbrev grown : {A B : Type 0} → (A → B) → Placed Place A → Placed Place B
+abbrev pub grown : {A B : Type 0} → (A → B) → Placed Place A → Placed Place B
 grown f p = record { it = f p.it; place = p.place }
 
 module _ {A B : Type 0} (f : A → B) where
-  trees_grown : (ns : List (Node A)) → map (node_tree f) ns ≡ map (grown f) (map (node_tree itself) ns)
+  pub trees_grown : (ns : List (Node A)) → map (node_tree f) ns ≡ map (grown f) (map (node_tree itself) ns)
   trees_grown [] = refl
   trees_grown (n ∷ ns) = ap (λ l. node_tree f n ∷ l) (trees_grown ns)
 

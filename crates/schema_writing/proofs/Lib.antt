@@ -5,3 +5,5 @@ pub mod KindFiled
 pub mod Extensions
 pub mod DefaultObject
 pub mod Written
+pub mod Whole
+pub mod KindTaken

@@ -1,5 +1,5 @@
 -- Private: leads to `written_type` of `schema_types`. What a type has, class by class and without the keys of its maps,
--- and what of it a giver gave.
+-- and what of it its definition or one extension gave.
 use Rattle.std.specs.Prelude.{List, [], ◌∷◌, ◌++◌, map, Option, None, Some, if◌then◌else◌}
 use Rattle.std.specs.Option.{option_map}
 use Rattle.indexmap.specs.IndexMap.{values}
@@ -13,6 +13,7 @@ use Rattle.schema_components.specs.Applied.{Applied, applied_tree}
 use Rattle.schema_components.specs.Given.{Given, ExtensionTree, component_tree, component_name_tree}
 use Rattle.schema_types.specs.Out.{given_by, givers, each_once}
 use Rattle.schema_types.specs.TypeParts.{TypeParts, definition_by, extension_by}
+use Rattle.schema_writing.specs.Filed.{without_givers}
 use Rattle.schema_types.specs.declared.type_kind.TypeKind.{TypeKind}
 use Rattle.schema_types.specs.declared.type_kind.TypeKind.TheVariants as kind
 use Rattle.schema_types.specs.declared.extended_type.ExtendedType.{ExtendedType}
@@ -91,6 +92,17 @@ parts_given_by giver t = record {
   inputs = given_by giver t.inputs;
 }
 
+-- all that a type has, from its definition and its extensions
+abbrev pub all_parts : TypeContents → GivenParts
+all_parts t = record {
+  directives = without_givers t.directives;
+  interfaces = without_givers t.interfaces;
+  fields = without_givers t.fields;
+  members = without_givers t.members;
+  values = without_givers t.values;
+  inputs = without_givers t.inputs;
+}
+
 -- the parts of a type with that name
 abbrev pub named_parts : TypeKind → Text Place → GivenParts → TypeParts Place
 named_parts kind name parts = record {
@@ -104,16 +116,20 @@ named_parts kind name parts = record {
   inputs = parts.inputs;
 }
 
--- the extensions of a type, by first appearance
+-- the extensions of a type, in the order of first appearance
 abbrev pub extensions_of_contents : TypeContents → List (ExtensionTree Place)
 extensions_of_contents t = each_once (givers t.directives ++ (givers t.interfaces ++ (givers t.fields ++ (givers t.members ++ (givers t.values ++ givers t.inputs)))))
 
--- what a giver that gave these parts writes: the definition of a type, or an extension
+-- what is written of a giver that gave these parts: the definition of a type, or an extension
 abbrev pub defined_from : TypeContents → GivenParts → DefinitionTree Place
 defined_from t parts = definition_by t.kind t.place t.description (named_parts t.kind t.name parts)
 
 abbrev pub extended_from : TypeContents → Place → GivenParts → DefinitionTree Place
 extended_from t place parts = extension_by t.kind place (named_parts t.kind t.name parts)
+
+-- the definition of a type, if it is not built in, that says all that the type has
+abbrev pub whole_definition : TypeContents → List (DefinitionTree Place)
+whole_definition t = if is_built_in t.place then [] else defined_from t (all_parts t) ∷ []
 
 -- the definition of a type, if it is not built in, and then its extensions
 abbrev pub written_contents : TypeContents → List (DefinitionTree Place)

@@ -1,4 +1,4 @@
--- Private: leads to `specs/Out.antt` of `schema_types`. What contracts see of a type's contents that are filed and given out.
+-- Private: leads to `specs/Out.antt` of `schema_types`. What contracts see of a type's contents, as they are filed and taken out.
 use Rattle.std.specs.Prelude.{◌≡◌, List, [], map, Option}
 use Rattle.graphql_names.specs.Placed.{Place, name_tree, node_tree}
 use Rattle.tree_directives.specs.DirectiveTree.{directive_tree, directives_tree, input_value_tree}
@@ -49,7 +49,7 @@ pub record HoldsNothing (f : FiledType) : Type 0 where
   pub values : f.values.entries ≡ []
   pub inputs : f.inputs.entries ≡ []
 
--- nothing is given yet
+-- no part is taken out yet
 pub record GivesNothing (p : Parts) : Type 0 where
   pub directives : p.directives.0.items ≡ []
   pub interfaces : p.interfaces.items ≡ []

@@ -1,4 +1,4 @@
--- Private: leads to `specs/Out.antt` of `schema_types`. What is written of what is filed under givers.
+-- Private: leads to `specs/Out.antt` of `schema_types`. What is written from what is filed under givers.
 use Rattle.std.specs.Prelude.{List, [], ◌∷◌, map, Option, None, Some, Vec, if◌then◌else◌}
 use Rattle.std.specs.declared.alloc.Global.{Global}
 use Rattle.indexmap.specs.IndexMap.{IndexMap}
@@ -29,20 +29,20 @@ module _ {S : Type 0} where
   abbrev pub filed_directives : Option (ExtensionTree Place) → IndexMap ComponentOrigin (Vec (Node Directive) Global) S → Directives Place
   filed_directives giver directives = map (node_tree directive_tree) (filed_under giver directives.entries)
 
-  -- what this giver gave to the schema, of which these directives are filed
+  -- what this giver gave to the schema: its directives, taken from the filed ones, and its roots
   abbrev pub schema_given : Option (ExtensionTree Place) → Node SchemaDefinition → IndexMap ComponentOrigin (Vec (Node Directive) Global) S → SchemaParts Place
   schema_given giver definition directives = record { directives = filed_directives giver directives; roots = (schema_parts_given_by None giver (schema_roots definition)).roots }
 
-  -- that extension of the schema
+  -- the extension of the schema with that identity
   abbrev pub schema_extension : Node SchemaDefinition → IndexMap ComponentOrigin (Vec (Node Directive) Global) S → ExtensionId → DefinitionTree Place
   schema_extension definition directives id = schema_extended_from (schema_roots definition) (extension_tree id) (filed_directives (Some (extension_tree id)) directives)
 
--- ---- a type of which this is filed
+-- ---- a type, with what is filed of it
 
--- its definition, if it is not built in
+-- the definition of the type, if it is not built in
 abbrev pub type_definition : ExtendedType → FiledType → List (DefinitionTree Place)
 type_definition t filed = if is_built_in (type_contents t).place then [] else defined_from (type_contents t) (filed_parts None filed) ∷ []
 
--- that extension of it
+-- the extension of the type with that identity
 abbrev pub type_extension : ExtendedType → FiledType → ExtensionId → DefinitionTree Place
 type_extension t filed id = extended_from (type_contents t) (place_of id) (filed_parts (Some (extension_tree id)) filed)

@@ -1,4 +1,4 @@
--- Private: leads to `specs/Out.antt` of `schema_types`. What is written of the schema definition and of directives, by pieces.
+-- Private: leads to `specs/Out.antt` of `schema_types`. What is written of the schema definition and of directives, in pieces.
 use Rattle.std.specs.Prelude.{Bool, ◌&&◌, List, [], ◌∷◌, map, None, Some, is_some}
 use Rattle.graphql_names.specs.declared.node.Node.{Node}
 use Rattle.graphql_names.specs.Placed.{Place, node_tree}
@@ -33,10 +33,10 @@ schema_extended_from s e directives = ExtendSchema e.place (record { directives 
 abbrev pub whole_schema : SchemaRoots Place → List (ExtensionTree Place) → List (DefinitionTree Place)
 whole_schema s es = Schema s.place s.description (schema_parts_given_by None None s) ∷ map (λ e. ExtendSchema e.place (schema_parts_given_by None (Some e) s)) es
 
--- the roots are the implicit ones, and there is a query root
+-- whether the roots are the implicit ones, and there is a query root
 abbrev pub has_implicit_roots : Entries (SchemaType Place) → SchemaRoots Place → Bool
 has_implicit_roots types s = is_implicit_root types operation.Query s.query && is_implicit_root types operation.Mutation s.mutation && is_implicit_root types operation.Subscription s.subscription && is_some s.query
 
--- a schema of which the definitions of directives are not looked at
+-- a schema with this definition and these types, without directive definitions
 abbrev pub schema_and_types : {S : Type 0} → Node SchemaDefinition → IndexMap NameValue ExtendedType S → SchemaTree Place
 schema_and_types definition types = record { definition = schema_roots definition; directives = []; types = types_view types }

@@ -18,32 +18,32 @@ use Rattle.schema_writing.specs.ContentsView.{parts_view}
 use Rattle.schema_writing.specs.declared.definition_by.Heading.{Heading}
 use Rattle.schema_writing.specs.declared.parts.Parts.{Parts}
 
--- the definitions that were there, and after them these
+-- the new definitions are the old ones followed by these
 abbrev pub Writes : Vec Definition Global → Vec Definition Global → List (DefinitionTree Place) → Type 0
 Writes old new written = map definition_tree new.items ≡ map definition_tree old.items ++ written
 
--- the definitions that were there, and after them the one that is made of this content at this place
+-- the new definitions are the old ones followed by one with this content and this place
 abbrev pub WritesPlaced : {T : Type 0} → (Node T → Definition → Type 0) → Place → T → Vec Definition Global → Vec Definition Global → Type 0
 WritesPlaced {T} gives location value old new = (n : Node T) × (d : Definition) × (
     (content n ≡ value) × (place n ≡ location) × gives n d × (new.items ≡ old.items ++ d ∷ []))
 
--- the roots that were there, and after them these
+-- the new roots are the old ones followed by these
 abbrev pub AddsRoots : Vec (Node (OperationType × NameValue)) Global → Vec (Node (OperationType × NameValue)) Global → List (Placed Place (RootOperationTree Place)) → Type 0
 AddsRoots old new more = map (node_tree root_tree) new.items ≡ map (node_tree root_tree) old.items ++ more
 
--- ---- what a type of that kind and name with these parts says
+-- ---- a type of that kind and name with these parts
 
 abbrev pub parts_of : TypeKind → NameValue → Parts → TypeParts Place
 parts_of kind name parts = named_parts kind (name_tree name) (parts_view parts)
 
--- the definition of one, and an extension of one
+-- the definition of a type, and an extension of a type
 abbrev pub headed_definition : Heading → Option NodeStrValue → Parts → DefinitionTree Place
 headed_definition heading description parts = definition_by heading.kind heading.location (option_map text_tree description) (parts_of heading.kind heading.name parts)
 
 abbrev pub headed_extension : Heading → Parts → DefinitionTree Place
 headed_extension heading parts = extension_by heading.kind heading.location (parts_of heading.kind heading.name parts)
 
--- the same by kinds
+-- the parts of a scalar, of a union, of an enum and of an input object
 abbrev pub scalar_of : NameValue → Parts → ScalarParts Place
 scalar_of name parts = record { name = name_tree name; directives = (parts_view parts).directives }
 

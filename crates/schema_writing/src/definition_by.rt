@@ -12,7 +12,7 @@ use schema_types::{TypeKind, node_at};
 use std::alloc::{AllocError, Global};
 use tree_definitions::Definition;
 
-/// What a type is called, of which kind it is, and where its definition or an extension of it is.
+/// The name and the kind of a type, and the place of its definition or of an extension of it.
 #[derive(Drop)]
 pub(crate) struct Heading {
     pub(crate) kind: TypeKind,
@@ -20,8 +20,8 @@ pub(crate) struct Heading {
     pub(crate) name: Name,
 }
 
-/// Writes a definition or an extension of this content, at that place.
-// Over any content, so that the node and the push are proved once for all kinds.
+/// Writes a definition or an extension with this content, at that place.
+// For any content, so that the node and the push are proved once for all kinds.
 pub(crate) fn write_placed<T: Drop>(
     alloc: Global,
     location: Option<SourceSpan>,
@@ -37,7 +37,7 @@ where
     Ok(())
 }
 
-/// Writes the definition of a type of that kind: what an extension says, with a description. The parts are taken.
+/// Writes the definition of a type of that kind: an extension's parts, with a description. The parts are taken.
 pub(crate) fn write_definition_by(
     alloc: Global,
     heading: Heading,
@@ -52,7 +52,7 @@ pub(crate) fn write_definition_by(
         location,
         name,
     } = heading;
-    // By way of the extension, so that each kind is put together in one function for both.
+    // It is made from the extension, so that each kind is put together in one function for both.
     match kind {
         TypeKind::Scalar => {
             let said = scalar_extension(alloc, name, parts);

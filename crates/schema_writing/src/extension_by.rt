@@ -60,7 +60,7 @@ pub(crate) fn write_extension_by(
     }
 }
 
-/// What an extension of a scalar type says (section 3.5.7).
+/// The content of an extension of a scalar type (section 3.5.7).
 pub(crate) fn scalar_extension(alloc: Global, name: Name, parts: &mut Parts) -> ScalarTypeExtension
     ensures { scalar_extension_parts result ≡ scalar_of name parts.old }
 {
@@ -70,7 +70,7 @@ pub(crate) fn scalar_extension(alloc: Global, name: Name, parts: &mut Parts) -> 
     }
 }
 
-/// What an extension of an object type says (section 3.6.3).
+/// The content of an extension of an object type (section 3.6.3).
 pub(crate) fn object_extension(alloc: Global, name: Name, parts: &mut Parts) -> ObjectTypeExtension
     ensures { object_extension_parts result ≡ fields_parts (parts_of kind.Object name parts.old) }
 {
@@ -82,7 +82,7 @@ pub(crate) fn object_extension(alloc: Global, name: Name, parts: &mut Parts) -> 
     }
 }
 
-/// What an extension of an interface type says (section 3.7.1).
+/// The content of an extension of an interface type (section 3.7.1).
 pub(crate) fn interface_extension(
     alloc: Global,
     name: Name,
@@ -98,7 +98,7 @@ pub(crate) fn interface_extension(
     }
 }
 
-/// What an extension of a union type says (section 3.8.1).
+/// The content of an extension of a union type (section 3.8.1).
 pub(crate) fn union_extension(alloc: Global, name: Name, parts: &mut Parts) -> UnionTypeExtension
     ensures { union_extension_parts result ≡ union_of name parts.old }
 {
@@ -109,7 +109,7 @@ pub(crate) fn union_extension(alloc: Global, name: Name, parts: &mut Parts) -> U
     }
 }
 
-/// What an extension of an enum type says (section 3.9.1).
+/// The content of an extension of an enum type (section 3.9.1).
 pub(crate) fn enum_extension(alloc: Global, name: Name, parts: &mut Parts) -> EnumTypeExtension
     ensures { enum_extension_parts result ≡ enum_of name parts.old }
 {
@@ -120,7 +120,7 @@ pub(crate) fn enum_extension(alloc: Global, name: Name, parts: &mut Parts) -> En
     }
 }
 
-/// What an extension of an input object type says (section 3.10.1).
+/// The content of an extension of an input object type (section 3.10.1).
 pub(crate) fn input_object_extension(
     alloc: Global,
     name: Name,

@@ -4,7 +4,7 @@ ghost use Rattle.std.specs.List.{AllZip};
 ghost use Rattle.graphql_names.specs.Placed.{name_tree, node_tree};
 ghost use Rattle.schema_components.specs.Given.{origin_tree, component_name_tree};
 ghost use Rattle.schema_types.specs.Out.{given_by};
-ghost use Rattle.schema_writing.specs.Filed.{filed_under, FilesOn, given_contents, itself};
+ghost use Rattle.schema_writing.specs.Filed.{filed_under, FilesOn, given_contents, itself, without_givers};
 
 use graphql_names::{Name, Node};
 use indexmap::IndexMap;
@@ -60,7 +60,7 @@ pub(crate) fn file_names(
     Ok(())
 }
 
-/// Takes what this giver gave, shared.
+/// Puts what this giver gave into the empty list `out`, shared.
 pub(crate) fn take<X: Clone>(
     filed: &IndexMap<ComponentOrigin, Vec<X>>,
     giver: ComponentOrigin,
@@ -73,4 +73,34 @@ pub(crate) fn take<X: Clone>(
         None => Ok(()),
         Some(items) => out.extend_from_slice(items),
     }
+}
+
+/// Takes all nodes, shared, of the definition and of the extensions.
+pub(crate) fn copy_nodes<T: Drop>(
+    components: &[Component<T>],
+    out: &mut Vec<Node<T>>,
+) -> Result<(), AllocError>
+    requires { out.old.items ≡ [] }
+    ensures { OnOk result (map (node_tree itself) out.new.items ≡ without_givers (given_contents components.now)) }
+{
+    out.reserve(components.len())?;
+    for component in components {
+        out.push(component.node.clone()?)?;
+    }
+    Ok(())
+}
+
+/// Takes all names, shared, of the definition and of the extensions.
+pub(crate) fn copy_names(
+    components: &[ComponentName],
+    out: &mut Vec<Name>,
+) -> Result<(), AllocError>
+    requires { out.old.items ≡ [] }
+    ensures { OnOk result (map name_tree out.new.items ≡ without_givers (map component_name_tree components.now)) }
+{
+    out.reserve(components.len())?;
+    for component in components {
+        out.push(component.name.clone()?)?;
+    }
+    Ok(())
 }

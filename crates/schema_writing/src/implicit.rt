@@ -2,7 +2,7 @@
 ghost use Rattle.std.specs.Prelude.{◌≡◌, ◌&&◌, is_none};
 ghost use Rattle.std.specs.Option.{option_map};
 ghost use Rattle.graphql_names.specs.Node.{content};
-ghost use Rattle.schema_types.specs.in_values.OperationQueries.{default_root_name};
+ghost use Rattle.schema_types.specs.in_operations.OperationQueries.{default_root_name};
 ghost use Rattle.schema_components.specs.Given.{component_name_tree};
 ghost use Rattle.schema_types.specs.SchemaView.{types_view};
 ghost use Rattle.schema_types.specs.TypeView.{schema_roots};
@@ -16,7 +16,7 @@ use schema_components::{ComponentName, ExtensionId};
 use schema_types::{ExtendedType, SchemaDefinition};
 use tree_operations::OperationType;
 
-/// Whether the schema definition is left out: it says nothing but the implicit roots, and these extensions are none.
+/// Whether the schema definition is left out: it gives nothing but the implicit roots, and there are no extensions.
 pub(crate) fn is_left_out(
     definition: &Node<SchemaDefinition>,
     extensions: &[ExtensionId],
@@ -31,7 +31,7 @@ pub(crate) fn is_left_out(
     has_implicit_roots(definition, types)
 }
 
-/// Whether the schema has no description, directives and extensions.
+/// Whether the schema has no description, no directives and no extensions.
 fn is_bare(definition: &Node<SchemaDefinition>, extensions: &[ExtensionId]) -> bool
     ensures { result ≡ (is_none (schema_roots definition.now).description && is_empty (schema_roots definition.now).directives && is_empty extensions.now) }
 {
@@ -53,7 +53,7 @@ fn has_implicit_roots(
         && schema.query.is_some()
 }
 
-/// Whether the root is the object with the default name, or there is neither (section 3.3.1).
+/// Whether the root is the object with the default name, or there is neither a root nor such an object (section 3.3.1).
 fn is_implicit_root(
     types: &IndexMap<Name, ExtendedType>,
     operation: OperationType,
@@ -63,7 +63,7 @@ fn is_implicit_root(
 {
     let is_object = is_default_object(types, operation);
     match root {
-        // Beside a schema definition an object named `Mutation` need be no root: without one it would become a root.
+        // With a schema definition an object named `Mutation` need not be a root; without a schema definition it would become one.
         None => !is_object,
         Some(root) => root.name.as_str() == operation.default_type_name() && is_object,
     }

@@ -1,10 +1,10 @@
 //! The write-out of a schema as a list of definitions.
 //!
-//! For the layer above: what is written, and in which order, is stated of the plain tree of a schema
+//! For the layer above: what is written, and in which order, is stated for the plain tree of a schema
 //! (`specs/Out.antt` of `schema_types`).
 //!
 //! Begin with that file and `write.rt`. Components are filed under their givers once (`filing.rt`), so a write-out
-//! takes time linear in what the schema holds.
+//! takes time linear in what the schema holds. Those of a type without extensions are not filed.
 #![tactic(auto)]
 
 mod definition_by;

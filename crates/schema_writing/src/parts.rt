@@ -2,10 +2,10 @@
 ghost use Rattle.std.specs.Prelude.{◌≡◌, [], OnOk};
 ghost use Rattle.indexmap.specs.IndexMap.{values};
 ghost use Rattle.schema_components.specs.Given.{origin_tree};
-ghost use Rattle.schema_writing.specs.Contents.{parts_given_by, type_contents};
+ghost use Rattle.schema_writing.specs.Contents.{all_parts, parts_given_by, type_contents};
 ghost use Rattle.schema_writing.specs.ContentsView.{FilesFields, GivesNothing, HoldsNothing, filed_parts, parts_view};
 
-use crate::filing::{file_components, file_names, take};
+use crate::filing::{copy_names, copy_nodes, file_components, file_names, take};
 use graphql_names::{Name, Node};
 use indexmap::{IndexMap, IndexSet};
 use schema_components::{Component, ComponentName, ComponentOrigin};
@@ -26,7 +26,7 @@ pub(crate) struct FiledType {
 }
 
 impl FiledType {
-    /// Nothing.
+    /// Without components.
     pub(crate) fn new(alloc: Global) -> FiledType
         ensures { HoldsNothing result }
     {
@@ -102,7 +102,7 @@ pub(crate) struct Parts {
     pub(crate) inputs: Vec<Node<InputValueDefinition>>,
 }
 
-/// Lets each class go, here and not wherever parts go.
+/// Drops each class, here and not at each place where a `Parts` is dropped.
 impl Drop for Parts {
     fn drop(self) {
         let Parts {
@@ -117,7 +117,7 @@ impl Drop for Parts {
 }
 
 impl Parts {
-    /// Nothing.
+    /// Without components.
     pub(crate) fn new(alloc: Global) -> Parts
         ensures { GivesNothing result }
     {
@@ -131,8 +131,38 @@ impl Parts {
         }
     }
 
+    /// Takes, shared, all that the type has, from its definition and its extensions.
+    pub(crate) fn take_all(&mut self, t: &ExtendedType) -> Result<(), AllocError>
+        requires { GivesNothing self.old }
+        ensures { OnOk result (parts_view self.new ≡ all_parts (type_contents t.now)) }
+    {
+        copy_nodes(&t.directives().0, &mut self.directives.0)?;
+        match t {
+            ExtendedType::Scalar(_) => Ok(()),
+            ExtendedType::Object(node) => {
+                let t = node.content();
+                copy_names(t.implements_interfaces.as_slice(), &mut self.interfaces)?;
+                copy_nodes(t.fields.values().as_slice(), &mut self.fields)
+            }
+            ExtendedType::Interface(node) => {
+                let t = node.content();
+                copy_names(t.implements_interfaces.as_slice(), &mut self.interfaces)?;
+                copy_nodes(t.fields.values().as_slice(), &mut self.fields)
+            }
+            ExtendedType::Union(node) => {
+                copy_names(node.content().members.as_slice(), &mut self.members)
+            }
+            ExtendedType::Enum(node) => {
+                copy_nodes(node.content().values.values().as_slice(), &mut self.values)
+            }
+            ExtendedType::InputObject(node) => {
+                copy_nodes(node.content().fields.values().as_slice(), &mut self.inputs)
+            }
+        }
+    }
+
     /// Takes, shared, what this giver gave to the type.
-    // The lists are filled one by one in what the caller owns: as locals here they would live across each `?`.
+    // The lists are filled one by one in a `Parts` of the caller: as locals here they would live across each `?`.
     pub(crate) fn take_given(
         &mut self,
         filed: &FiledType,

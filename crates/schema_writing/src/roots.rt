@@ -43,7 +43,7 @@ pub(crate) fn add_roots(
     )
 }
 
-/// Adds the root of an operation, if it is there and this giver gave it. Of the pair no place was kept.
+/// Adds the root of an operation, if there is one and this giver gave it. The pair has no place: none was kept.
 fn add_root(
     alloc: Global,
     giver: ComponentOrigin,
@@ -65,7 +65,7 @@ fn add_root(
     Ok(())
 }
 
-/// Whether both are the definition, or both the extension of one number.
+/// Whether both are the definition, or both are extensions of the same number.
 fn is_same_giver(a: ComponentOrigin, b: ComponentOrigin) -> bool
     ensures { result ≡ same_giver (origin_tree a) (origin_tree b) }
 {

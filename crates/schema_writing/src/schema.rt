@@ -61,7 +61,7 @@ fn write_whole_schema(
     write_schema_extensions(alloc, definition, directives, extensions, out)
 }
 
-/// Writes the schema definition: what the definition gave.
+/// Writes the schema definition with what it gave.
 fn write_definition(
     alloc: Global,
     definition: &Node<SchemaDefinition>,
@@ -96,7 +96,7 @@ fn write_schema_extensions(
     Ok(())
 }
 
-/// Writes an extension of the schema: what it gave, at its place.
+/// Writes an extension of the schema with what it gave, at its place.
 fn write_extension(
     alloc: Global,
     definition: &Node<SchemaDefinition>,
@@ -115,7 +115,7 @@ fn write_extension(
     write_placed(alloc, id.location(), said, out)
 }
 
-/// What this giver gave to the schema, as an extension says it (section 3.3.2).
+/// What this giver gave to the schema, in the form of an extension (section 3.3.2).
 fn schema_parts(
     alloc: Global,
     definition: &Node<SchemaDefinition>,

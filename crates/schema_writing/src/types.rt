@@ -1,8 +1,8 @@
 //! The definitions and extensions of types.
 ghost use Rattle.std.specs.Prelude.{[], ◌∷◌, map, OnOk};
 ghost use Rattle.std.specs.List.{flat_map};
-ghost use Rattle.schema_writing.specs.Contents.{type_contents, written_contents};
-ghost use Rattle.schema_writing.specs.ContentsView.{HoldsNothing};
+ghost use Rattle.schema_writing.specs.Contents.{type_contents, defined_from, whole_definition, written_contents};
+ghost use Rattle.schema_writing.specs.ContentsView.{HoldsNothing, parts_view};
 ghost use Rattle.schema_writing.specs.Writing.{Writes};
 ghost use Rattle.schema_writing.specs.FiledView.{type_definition, type_extension};
 
@@ -37,7 +37,8 @@ fn write_type(alloc: Global, t: &ExtendedType, out: &mut Vec<Definition>) -> Res
     write_filed(alloc, t, &mut filed, out)
 }
 
-/// Files what a type has, and writes its definition, if it is not built in, and then its extensions.
+/// Writes the definition of a type, if it is not built in, and then its extensions. Where there are extensions, all that
+/// the type has is filed first.
 fn write_filed(
     alloc: Global,
     t: &ExtendedType,
@@ -47,13 +48,29 @@ fn write_filed(
     requires { HoldsNothing filed.old }
     ensures { OnOk result (Writes out.old out.new (written_contents (type_contents t.now))) }
 {
+    let extensions = t.extensions(alloc)?;
+    if extensions.is_empty() {
+        // The definition gave all of the type, in order: nothing has to be filed.
+        return write_whole(alloc, t, out);
+    }
     filed.file(alloc, t)?;
     write_definition(alloc, t, filed, out)?;
-    let extensions = t.extensions(alloc)?;
     write_extensions(alloc, t, filed, extensions.as_slice(), out)
 }
 
-/// Writes the definition of a type, if it is not built in: what the definition gave.
+/// Writes the definition of a type, if it is not built in, with all that the type has.
+fn write_whole(alloc: Global, t: &ExtendedType, out: &mut Vec<Definition>) -> Result<(), AllocError>
+    ensures { OnOk result (Writes out.old out.new (whole_definition (type_contents t.now))) }
+{
+    if t.is_built_in() {
+        return Ok(());
+    }
+    let mut parts = Parts::new(alloc);
+    parts.take_all(t)?;
+    write_defined(alloc, t, &mut parts, out)
+}
+
+/// Writes the definition of a type with what it gave, if it is not built in.
 fn write_definition(
     alloc: Global,
     t: &ExtendedType,
@@ -67,13 +84,25 @@ fn write_definition(
     }
     let mut parts = Parts::new(alloc);
     parts.take_given(filed, ComponentOrigin::Definition)?;
+    write_defined(alloc, t, &mut parts, out)
+}
+
+/// Writes the definition of a type, with these parts. They are taken.
+fn write_defined(
+    alloc: Global,
+    t: &ExtendedType,
+    parts: &mut Parts,
+    out: &mut Vec<Definition>,
+) -> Result<(), AllocError>
+    ensures { OnOk result (Writes out.old out.new (defined_from (type_contents t.now) (parts_view parts.old) ∷ [])) }
+{
     let description = shared_description(t.description())?;
     let heading = Heading {
         kind: t.kind(),
         location: t.location(),
         name: t.name().clone()?,
     };
-    write_definition_by(alloc, heading, description, &mut parts, out)
+    write_definition_by(alloc, heading, description, parts, out)
 }
 
 /// Writes the extensions of a type, in order.
@@ -92,7 +121,7 @@ fn write_extensions(
     Ok(())
 }
 
-/// Writes an extension of a type: what it gave, at its place.
+/// Writes an extension of a type with what it gave, at its place.
 fn write_extension(
     alloc: Global,
     t: &ExtendedType,

@@ -19,7 +19,7 @@ fn hold(rt: &impl Abort, condition: bool, what: &str) {
     assert!(rt; condition, "{what}");
 }
 
-/// What is made where memory is ample.
+/// What is made, if memory suffices.
 fn got<T: Drop, E: Drop>(rt: &impl Abort, made: Result<T, E>) -> T {
     made.ok().expect(rt, "it is made")
 }
@@ -96,7 +96,7 @@ fn is_as_told(made: Result<Name, NameError>, text: &str, valid: bool) -> bool {
     }
 }
 
-/// The same of the literal.
+/// The same for the literal.
 fn is_fixed_as_told(text: &'static str, valid: bool) -> bool {
     match Name::new_static(text) {
         Ok(name) => valid && name.eq_str(text),
@@ -152,7 +152,7 @@ fn placed_name(alloc: Global) -> Result<Name, AllocError> {
     Ok(Name::new_unchecked(alloc, "query")?.with_location(span(1, 2, 5)))
 }
 
-/// A name of the text that the name shares, where that is owned.
+/// A name of the text that the name shares, if that is owned.
 fn shared_name(alloc: Global, name: &Name) -> Option<Name> {
     match name.to_cloned_arc(alloc) {
         Ok(Some(text)) => Some(Name::from_arc_unchecked(text)),
@@ -160,7 +160,7 @@ fn shared_name(alloc: Global, name: &Name) -> Option<Name> {
     }
 }
 
-/// The literal's text is lent as it stands, and an owned one is not.
+/// The literal's text is lent unchanged, and an owned one is not.
 fn lends_literal(rt: &impl Abort, alloc: Global, literal: &Name, placed: &Name) {
     let is_lent = literal.as_static_str() == Some("query");
     let shared = got(rt, literal.to_cloned_arc(alloc));
@@ -192,7 +192,7 @@ fn shares_the_text_of_a_name(rt: HostRuntime) {
     is_query(&rt, &shared, &placed);
 }
 
-/// A name of what stands between the braces of a text.
+/// A name of the text between two braces.
 fn name_in_braces(alloc: Global) -> Result<Name, AllocError> {
     let whole = RcStr::from_str(alloc, "{query}")?;
     Ok(Name::from_part_unchecked(TextPart::new(&whole, 1, 6)?))
@@ -296,6 +296,22 @@ fn takes_texts_as_they_are(rt: HostRuntime) {
     prints(&rt, alloc, &kept, "a é");
 }
 
+/// What stands between the quotes of a text, with its place.
+fn text_in_quotes(alloc: Global) -> Result<NodeStr, AllocError> {
+    let whole = RcStr::from_str(alloc, "é: \"a é\" b")?;
+    let quoted = TextPart::new(&whole, 4, 10)?;
+    Ok(NodeStr::from_part_parsed(quoted.narrowed(1, 5), span(0, 4, 6)))
+}
+
+#[test]
+fn takes_parts_of_texts_as_they_are(rt: HostRuntime) {
+    let alloc = rt.alloc();
+    let part = got(&rt, text_in_quotes(alloc));
+    same_place(&rt, part.location(), Some(span(0, 4, 6)));
+    prints(&rt, alloc, &part, "a é");
+    alike(&rt, &part, &got(&rt, NodeStr::new_str(alloc, "a é")));
+}
+
 #[test]
 fn ignores_places_of_texts(rt: HostRuntime) {
     let text = got(
@@ -309,7 +325,7 @@ fn ignores_places_of_texts(rt: HostRuntime) {
     hold(&rt, is_so, "a text, and none that is built in");
 }
 
-/// How many bytes a device took or gave, or the greatest number where it failed.
+/// How many bytes a device took or gave, or the greatest number if it failed.
 fn count_of(taken: io::Result<usize>) -> usize {
     match taken {
         Ok(count) => count,
@@ -335,7 +351,7 @@ fn stops<'a>(rt: &impl Abort, device: &mut Device<Cut<&'a [u8]>>, kind: ErrorKin
     hold(rt, told & device.failed(), "a failure");
 }
 
-/// Of three bytes two are read, and then the device ends so.
+/// Of three bytes two are read, and then the device ends this way.
 fn reads_two(rt: &impl Abort, ending: Ending, kind: ErrorKind) {
     let mut device = Device::new(Cut::new(&b"abc"[..], 1, 2, ending));
     reads(rt, &mut device, b'a');
@@ -360,7 +376,7 @@ fn reads_to_the_end(rt: HostRuntime) {
     hold(&rt, is_so, "one byte, and the end, which is no failure");
 }
 
-/// Of four bytes as many are written as the writer takes, two at most a call.
+/// Of four bytes as many are written as the writer takes, at most two a call.
 fn writes(rt: &impl Abort, alloc: Global, total: usize, ending: Ending) {
     let mut written = Vec::new(alloc);
     let mut device = Device::new(Cut::new(&mut written, 2, total, ending));
@@ -380,7 +396,7 @@ fn writes_up_to_each_byte(rt: HostRuntime) {
     }
 }
 
-/// The device takes nothing of these bytes, and has failed then or has not.
+/// The device takes nothing of these bytes, and has then failed or not.
 fn takes_nothing<'a>(
     rt: &impl Abort,
     device: &mut Device<Cut<&'a mut Vec<u8>>>,

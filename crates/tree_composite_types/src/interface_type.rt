@@ -20,7 +20,7 @@ pub struct InterfaceTypeDefinition {
     pub fields: Vec<Node<FieldDefinition>>,
 }
 
-// Not derived: a derived drop is proved again in each crate that drops one.
+// Not derived: a derived drop is proved again in every crate that uses it.
 impl Drop for InterfaceTypeDefinition {
     fn drop(self) {
         let InterfaceTypeDefinition {
@@ -42,7 +42,7 @@ pub struct InterfaceTypeExtension {
     pub fields: Vec<Node<FieldDefinition>>,
 }
 
-// Not derived: a derived drop is proved again in each crate that drops one.
+// Not derived: a derived drop is proved again in every crate that uses it.
 impl Drop for InterfaceTypeExtension {
     fn drop(self) {
         let InterfaceTypeExtension {

@@ -24,4 +24,4 @@ pub use print_composite::{
 pub use tree_type_members::{EnumValueDefinition, FieldDefinition, put_directive_definition};
 pub use union_type::{UnionTypeDefinition, UnionTypeExtension};
 
-// Of the crates beneath, for those above.
+// Re-exported from the crates below, for the crates above.

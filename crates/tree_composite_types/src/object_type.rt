@@ -20,7 +20,7 @@ pub struct ObjectTypeDefinition {
     pub fields: Vec<Node<FieldDefinition>>,
 }
 
-// Not derived: a derived drop is proved again in each crate that drops one.
+// Not derived: a derived drop is proved again in every crate that uses it.
 impl Drop for ObjectTypeDefinition {
     fn drop(self) {
         let ObjectTypeDefinition {
@@ -42,7 +42,7 @@ pub struct ObjectTypeExtension {
     pub fields: Vec<Node<FieldDefinition>>,
 }
 
-// Not derived: a derived drop is proved again in each crate that drops one.
+// Not derived: a derived drop is proved again in every crate that uses it.
 impl Drop for ObjectTypeExtension {
     fn drop(self) {
         let ObjectTypeExtension {

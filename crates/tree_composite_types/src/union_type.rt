@@ -16,7 +16,7 @@ pub struct UnionTypeDefinition {
     pub members: Vec<NamedType>,
 }
 
-// Not derived: a derived drop is proved again in each crate that drops one.
+// Not derived: a derived drop is proved again in every crate that uses it.
 impl Drop for UnionTypeDefinition {
     fn drop(self) {
         let UnionTypeDefinition {
@@ -36,7 +36,7 @@ pub struct UnionTypeExtension {
     pub members: Vec<NamedType>,
 }
 
-// Not derived: a derived drop is proved again in each crate that drops one.
+// Not derived: a derived drop is proved again in every crate that uses it.
 impl Drop for UnionTypeExtension {
     fn drop(self) {
         let UnionTypeExtension {

@@ -8,9 +8,9 @@ use Rattle.tree_definitions.specs.declared.definition.Definition.TheVariants as 
 use Rattle.tree_definitions.specs.declared.document.Document.{Document}
 use Rattle.tree_definitions.specs.contracts.definition.DefinitionPartialEq.TheImpl as definition_impl
 use Rattle.tree_definitions.specs.contracts.document.DocumentPartialEq.TheImpl as document_impl
-use Rattle.tree_meaning.proofs.in_values.Decided.{through, lists_decide}
-use Rattle.tree_meaning.proofs.in_values.DirectiveEquality.{directive_definition_eq-Decides}
-use Rattle.tree_meaning.proofs.in_values.OperationEquality.{operation_eq-Decides, fragment_eq-Decides}
+use Rattle.spec_tree.proofs.in_operations.Decided.{through, lists_decide}
+use Rattle.spec_tree.proofs.in_operations.DirectiveEquality.{directive_definition_eq-Decides}
+use Rattle.spec_tree.proofs.in_operations.OperationEquality.{operation_eq-Decides, fragment_eq-Decides}
 use Rattle.tree_definitions.proofs.TreeEquality.{schema_eq-Decides, scalar_eq-Decides, object_eq-Decides, interface_eq-Decides, union_eq-Decides, enum_eq-Decides, input_object_eq-Decides, schema_extension_eq-Decides, scalar_extension_eq-Decides, object_extension_eq-Decides, interface_extension_eq-Decides, union_extension_eq-Decides, enum_extension_eq-Decides, input_object_extension_eq-Decides}
 
 pub definition_eq-Decides : (d e : Definition) → Decides (definition_impl.ghosts.eq d e) (unplaced_definition (definition_tree d) ≡ unplaced_definition (definition_tree e))

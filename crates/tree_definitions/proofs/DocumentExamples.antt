@@ -1,12 +1,12 @@
 -- The layout of small documents, computed. The texts are written by hand.
 use Rattle.std.proofs.Common.{◌≡◌, ℕ, List, [], ◌∷◌, codes, Option, None, Some, refl}
-use Rattle.tree_meaning.specs.in_values.Joined.{joined}
-use Rattle.tree_meaning.specs.in_values.Placed.{Placed, Text}
-use Rattle.tree_meaning.specs.in_values.TypeTree.{TypeTree, NamedTree}
-use Rattle.tree_meaning.specs.in_values.ValueTree.{ValueTree, IntTree}
-use Rattle.tree_meaning.specs.in_values.DirectiveTree.{DirectiveTree, InputValueTree}
-use Rattle.tree_meaning.specs.in_values.SelectionTree.{FieldTree, no_selections, selection_then}
-use Rattle.tree_meaning.specs.in_values.LineLayout.{Prefix}
+use Rattle.spec_tree.specs.in_operations.Joined.{joined}
+use Rattle.spec_tree.specs.in_operations.Placed.{Placed, Text}
+use Rattle.spec_tree.specs.in_operations.TypeTree.{TypeTree, NamedTree}
+use Rattle.spec_tree.specs.in_operations.ValueTree.{ValueTree, IntTree}
+use Rattle.spec_tree.specs.in_operations.DirectiveTree.{DirectiveTree, InputValueTree}
+use Rattle.spec_tree.specs.in_operations.SelectionTree.{FieldTree, no_selections, selection_then}
+use Rattle.spec_tree.specs.in_operations.LineLayout.{Prefix}
 use Rattle.tree_composite_types.specs.in_directives.declared.operation_type.OperationType.TheVariants.{Query, Mutation}
 use Rattle.tree_composite_types.specs.in_type_members.TypeSystemTree.{FieldDefinitionTree, EnumValueTree, FieldsParts}
 use Rattle.tree_definitions.specs.DefinitionTree.{DefinitionTree, Operation, Schema, ScalarType, ObjectType, InterfaceType, UnionType, EnumType, InputObjectType, ExtendSchema, ExtendScalar, ExtendObject, ExtendUnion}

@@ -3,4 +3,4 @@ pub mod DocumentExamples
 pub mod PrefixExamples
 pub mod TreeEquality
 pub mod DefinitionEquality
-pub use Rattle.tree_meaning.proofs.in_values as in_values
+pub use Rattle.spec_tree.proofs.in_operations as in_operations

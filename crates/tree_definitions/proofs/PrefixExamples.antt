@@ -1,12 +1,12 @@
 -- Each form of definitions under a prefix of two spaces, of four spaces and of one tab, computed. The texts are written by hand.
 use Rattle.std.proofs.Common.{◌≡◌, ℕ, List, [], ◌∷◌, codes, true, Option, None, Some, refl}
-use Rattle.tree_meaning.specs.in_values.Joined.{joined}
-use Rattle.tree_meaning.specs.in_values.Placed.{Placed, Text}
-use Rattle.tree_meaning.specs.in_values.TypeTree.{TypeTree, NamedTree, NonNullNamedTree, NonNullListTree}
-use Rattle.tree_meaning.specs.in_values.ValueTree.{ValueTree, IntTree, StringTree, VariableTree, ListTree, ObjectTree, no_items, item_then, no_entries, entry_then}
-use Rattle.tree_meaning.specs.in_values.DirectiveTree.{DirectiveTree, ArgumentTree, InputValueTree}
-use Rattle.tree_meaning.specs.in_values.SelectionTree.{SelectionTrees, FieldHead, FieldTree, SpreadTree, InlineTree, no_selections, selection_then}
-use Rattle.tree_meaning.specs.in_values.OperationTree.{VariableDefinitionTree}
+use Rattle.spec_tree.specs.in_operations.Joined.{joined}
+use Rattle.spec_tree.specs.in_operations.Placed.{Placed, Text}
+use Rattle.spec_tree.specs.in_operations.TypeTree.{TypeTree, NamedTree, NonNullNamedTree, NonNullListTree}
+use Rattle.spec_tree.specs.in_operations.ValueTree.{ValueTree, IntTree, StringTree, VariableTree, ListTree, ObjectTree, no_items, item_then, no_entries, entry_then}
+use Rattle.spec_tree.specs.in_operations.DirectiveTree.{DirectiveTree, ArgumentTree, InputValueTree}
+use Rattle.spec_tree.specs.in_operations.SelectionTree.{SelectionTrees, FieldHead, FieldTree, SpreadTree, InlineTree, no_selections, selection_then}
+use Rattle.spec_tree.specs.in_operations.OperationTree.{VariableDefinitionTree}
 use Rattle.tree_composite_types.specs.in_directives.declared.operation_type.OperationType.TheVariants.{Query, Mutation}
 use Rattle.tree_composite_types.specs.in_directives.declared.directive_location.DirectiveLocation.TheVariants as at
 use Rattle.tree_composite_types.specs.in_type_members.TypeSystemTree.{FieldDefinitionTree, EnumValueTree, FieldsParts}

@@ -4,8 +4,8 @@ use Rattle.std.specs.Bool.{Decides}
 use Rattle.std.specs.Option.{option_map}
 use Rattle.std.specs.Cmp.Lexicographic.{pointwise}
 use Rattle.graphql_names.specs.NameValue.{NameValue}
-use Rattle.tree_meaning.specs.in_values.Placed.{name_tree, text_tree, unplaced_text}
-use Rattle.tree_meaning.specs.in_values.DirectiveTree.{input_value_tree, unplaced_input_value}
+use Rattle.spec_tree.specs.in_operations.Placed.{name_tree, text_tree, unplaced_text}
+use Rattle.spec_tree.specs.in_operations.DirectiveTree.{input_value_tree, unplaced_input_value}
 use Rattle.tree_composite_types.specs.in_directives.declared.operation_type.OperationType.{OperationType}
 use Rattle.tree_composite_types.specs.in_type_members.TypeSystemTree.{enum_value_tree, field_definition_tree, unplaced_enum, unplaced_enum_value, unplaced_field_definition, unplaced_fields, unplaced_input_object, unplaced_root, unplaced_scalar, unplaced_schema, unplaced_union}
 use Rattle.tree_composite_types.specs.CompositeTree.{object_parts, object_extension_parts, interface_parts, interface_extension_parts, union_parts, union_extension_parts}
@@ -42,11 +42,11 @@ use Rattle.tree_input_types.specs.contracts.enum_type.EnumTypeDefinitionPartialE
 use Rattle.tree_input_types.specs.contracts.enum_type.EnumTypeExtensionPartialEq.TheImpl as enum_extension_impl
 use Rattle.tree_input_types.specs.contracts.input_object_type.InputObjectTypeDefinitionPartialEq.TheImpl as input_object_impl
 use Rattle.tree_input_types.specs.contracts.input_object_type.InputObjectTypeExtensionPartialEq.TheImpl as input_object_extension_impl
-pub use Rattle.tree_meaning.proofs.MemberEquality.{field_definition_eq-Decides, enum_value_eq-Decides}
-use Rattle.tree_meaning.proofs.in_values.Decided.{through, pair_decides, lists_decide, nodes_decide, options_decide, name_decides, text_decides}
-use Rattle.tree_meaning.proofs.in_values.TypeEquality.{type_eq-Decides}
-use Rattle.tree_meaning.proofs.in_values.DirectiveEquality.{directive_list_eq-Decides, input_value_eq-Decides}
-use Rattle.tree_meaning.proofs.in_values.OperationEquality.{operation_type_eq, operation_type_eq-Decides}
+pub use Rattle.spec_tree.proofs.MemberEquality.{field_definition_eq-Decides, enum_value_eq-Decides}
+use Rattle.spec_tree.proofs.in_operations.Decided.{through, pair_decides, lists_decide, nodes_decide, options_decide, name_decides, text_decides}
+use Rattle.spec_tree.proofs.in_operations.TypeEquality.{type_eq-Decides}
+use Rattle.spec_tree.proofs.in_operations.DirectiveEquality.{directive_list_eq-Decides, input_value_eq-Decides}
+use Rattle.spec_tree.proofs.in_operations.OperationEquality.{operation_type_eq, operation_type_eq-Decides}
 
 root_eq-Decides : (a b : OperationType × NameValue) → Decides (operation_type_eq a.0 b.0 && pointwise nat_eq a.1.text b.1.text) (unplaced_root (root_tree a) ≡ unplaced_root (root_tree b))
 root_eq-Decides a b =

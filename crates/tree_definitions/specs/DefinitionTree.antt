@@ -2,12 +2,12 @@
 use Rattle.std.specs.Prelude.{List, map}
 use Rattle.std.specs.Option.{option_map}
 use Rattle.graphql_names.specs.Node.{content, place}
-use Rattle.tree_meaning.specs.in_values.Placed.{Place, text_tree}
-use Rattle.tree_meaning.specs.in_values.DirectiveTree.{directive_definition_tree}
-use Rattle.tree_meaning.specs.in_values.OperationTree.{operation_tree, fragment_tree}
+use Rattle.spec_tree.specs.in_operations.Placed.{Place, text_tree}
+use Rattle.spec_tree.specs.in_operations.DirectiveTree.{directive_definition_tree}
+use Rattle.spec_tree.specs.in_operations.OperationTree.{operation_tree, fragment_tree}
 pub use Rattle.tree_composite_types.specs.CompositeTree.{object_parts, object_extension_parts, interface_parts, interface_extension_parts, union_parts, union_extension_parts}
 pub use Rattle.tree_input_types.specs.InputTypeTree.{root_tree, schema_parts, schema_extension_parts, scalar_parts, scalar_extension_parts, enum_parts, enum_extension_parts, input_object_parts, input_object_extension_parts}
-pub use Rattle.tree_meaning.specs.DefinitionTree.{DefinitionTree, Operation, Fragment, DirectiveDefinition, Schema, ScalarType, ObjectType, InterfaceType, UnionType, EnumType, InputObjectType, ExtendSchema, ExtendScalar, ExtendObject, ExtendInterface, ExtendUnion, ExtendEnum, ExtendInputObject, unplaced_definition, unplaced_document}
+pub use Rattle.spec_tree.specs.DefinitionTree.{DefinitionTree, Operation, Fragment, DirectiveDefinition, Schema, ScalarType, ObjectType, InterfaceType, UnionType, EnumType, InputObjectType, ExtendSchema, ExtendScalar, ExtendObject, ExtendInterface, ExtendUnion, ExtendEnum, ExtendInputObject, unplaced_definition, unplaced_document}
 use Rattle.tree_definitions.specs.declared.definition.Definition.{Definition}
 use Rattle.tree_definitions.specs.declared.definition.Definition.TheVariants as rust
 use Rattle.tree_definitions.specs.declared.document.Document.{Document}
@@ -31,6 +31,6 @@ definition_tree (rust.UnionTypeExtension n) = ExtendUnion (place n) (union_exten
 definition_tree (rust.EnumTypeExtension n) = ExtendEnum (place n) (enum_extension_parts (content n))
 definition_tree (rust.InputObjectTypeExtension n) = ExtendInputObject (place n) (input_object_extension_parts (content n))
 
--- what a document is: its definitions in order
+-- the tree of a document: its definitions in order
 abbrev pub document_tree : Document → List (DefinitionTree Place)
 document_tree d = map definition_tree d.definitions.items

@@ -1,10 +1,10 @@
--- Definitions and documents (GraphQL, October 2021, section 2.2).
+-- The texts of definitions and documents (GraphQL, October 2021, section 2.2).
 use Rattle.std.specs.Prelude.{ℕ, Bool, false, List, [], ◌∷◌, map, codes, None, Some}
-use Rattle.tree_meaning.specs.in_values.Joined.{joined}
-use Rattle.tree_meaning.specs.in_values.LineLayout.{Prefix, Leveled, start_text}
-use Rattle.tree_meaning.specs.in_values.StringLayout.{description_text}
-use Rattle.tree_meaning.specs.in_values.InputLayout.{directive_definition_text}
-use Rattle.tree_meaning.specs.in_values.OperationLayout.{operation_text, fragment_text, begins_output}
+use Rattle.spec_tree.specs.in_operations.Joined.{joined}
+use Rattle.spec_tree.specs.in_operations.LineLayout.{Prefix, Leveled, start_text}
+use Rattle.spec_tree.specs.in_operations.StringLayout.{description_text}
+use Rattle.spec_tree.specs.in_operations.InputLayout.{directive_definition_text}
+use Rattle.spec_tree.specs.in_operations.OperationLayout.{operation_text, fragment_text, begins_output}
 use Rattle.tree_composite_types.specs.in_type_members.TypeSystemLayout.{schema_text, scalar_text, fields_text, union_text, enum_text, input_object_text}
 pub use Rattle.tree_composite_types.specs.in_type_members.TypeSystemLayout.{extend}
 use Rattle.tree_definitions.specs.DefinitionTree.{DefinitionTree, Operation, Fragment, DirectiveDefinition, Schema, ScalarType, ObjectType, InterfaceType, UnionType, EnumType, InputObjectType, ExtendSchema, ExtendScalar, ExtendObject, ExtendInterface, ExtendUnion, ExtendEnum, ExtendInputObject}
@@ -28,16 +28,16 @@ definition_text at_start prefix (ExtendUnion p t) level = union_text extend t
 definition_text at_start prefix (ExtendEnum p t) level = enum_text extend prefix t level
 definition_text at_start prefix (ExtendInputObject p t) level = input_object_text extend prefix t level
 
--- between two definitions: an empty line, or a space where all stands on one line
+-- between two definitions: an empty line, or a space in a layout of one line
 abbrev pub between_text : Prefix → List ℕ
 between_text None = codes " "
 between_text (Some prefix) = codes "\n\n"
 
--- a definition behind another
+-- a definition after another
 abbrev pub next_definition_text : {P : Type 0} → Prefix → ℕ → DefinitionTree P → List ℕ
 next_definition_text prefix level d = joined (between_text prefix ∷ start_text prefix level ∷ definition_text false prefix d level ∷ [])
 
--- what ends a document: a line feed, where there are lines
+-- what ends a document: a line feed, if the layout has lines
 abbrev pub end_text : Prefix → List ℕ
 end_text None = joined []
 end_text (Some prefix) = codes "\n"

@@ -4,6 +4,7 @@ ghost use Rattle.graphql_names.specs.declared.node.Node.{Node};
 ghost use Rattle.tree_definitions.specs.DefinitionTree.{definition_tree};
 ghost use Rattle.tree_definitions.specs.Printed.{IsFromCopy};
 
+use spec_tree::{DirectiveDefinition, FragmentDefinition, Node, OperationDefinition};
 use std::alloc::AllocError;
 use tree_composite_types::{
     InterfaceTypeDefinition, InterfaceTypeExtension, ObjectTypeDefinition, ObjectTypeExtension,
@@ -13,7 +14,6 @@ use tree_input_types::{
     EnumTypeDefinition, EnumTypeExtension, InputObjectTypeDefinition, InputObjectTypeExtension,
     ScalarTypeDefinition, ScalarTypeExtension, SchemaDefinition, SchemaExtension,
 };
-use tree_meaning::{DirectiveDefinition, FragmentDefinition, Node, OperationDefinition};
 
 /// What a document holds, with a variant for each form (section 2.2).
 #[derive(PartialEq, Eq, Hash)]
@@ -62,7 +62,7 @@ impl Drop for Definition {
 }
 
 /// A definition of a copy of the node.
-// The clone and its `?` are proved here once, and not in each of seventeen arms.
+// The clone and its `?` are proved once here, instead of in each of seventeen arms.
 fn copied<T: Drop>(node: &Node<T>) -> Result<Definition, AllocError>
 where
     Definition: From<Node<T>>,

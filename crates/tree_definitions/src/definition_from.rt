@@ -3,6 +3,7 @@ ghost use Rattle.std.specs.Prelude.{◌≡◌};
 ghost use Rattle.tree_definitions.specs.declared.definition.Definition.TheVariants as variant;
 
 use crate::definition::Definition;
+use spec_tree::{DirectiveDefinition, FragmentDefinition, Node, OperationDefinition};
 use tree_composite_types::{
     InterfaceTypeDefinition, InterfaceTypeExtension, ObjectTypeDefinition, ObjectTypeExtension,
     UnionTypeDefinition, UnionTypeExtension,
@@ -11,7 +12,6 @@ use tree_input_types::{
     EnumTypeDefinition, EnumTypeExtension, InputObjectTypeDefinition, InputObjectTypeExtension,
     ScalarTypeDefinition, ScalarTypeExtension, SchemaDefinition, SchemaExtension,
 };
-use tree_meaning::{DirectiveDefinition, FragmentDefinition, Node, OperationDefinition};
 
 impl From<Node<OperationDefinition>> for Definition {
     ghost from_gives = { λ node d. d ≡ variant.OperationDefinition node };

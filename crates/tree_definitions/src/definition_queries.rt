@@ -1,13 +1,13 @@
 //! What can be asked of every definition.
 ghost use Rattle.std.specs.Prelude.{◌≡◌};
 ghost use Rattle.std.specs.Option.{option_map};
-ghost use Rattle.tree_meaning.specs.in_values.Placed.{name_tree};
-ghost use Rattle.tree_meaning.specs.in_values.DirectiveTree.{directives_tree};
+ghost use Rattle.spec_tree.specs.in_operations.Placed.{name_tree};
+ghost use Rattle.spec_tree.specs.in_operations.DirectiveTree.{directives_tree};
 ghost use Rattle.tree_definitions.specs.DefinitionTree.{definition_tree};
 ghost use Rattle.tree_definitions.specs.Queries.{is_executable, is_extension, definition_place, definition_name, definition_directives};
 
 use crate::definition::Definition;
-use tree_meaning::{DirectiveList, Name, SourceSpan};
+use spec_tree::{DirectiveList, Name, SourceSpan};
 
 impl Definition {
     /// Whether it is an operation or a fragment.

@@ -2,6 +2,7 @@
 ghost use Rattle.tree_definitions.specs.Queries.{IsContentOf};
 
 use crate::definition::Definition;
+use spec_tree::{DirectiveDefinition, FragmentDefinition, Node, OperationDefinition};
 use tree_composite_types::{
     InterfaceTypeDefinition, InterfaceTypeExtension, ObjectTypeDefinition, ObjectTypeExtension,
     UnionTypeDefinition, UnionTypeExtension,
@@ -10,9 +11,8 @@ use tree_input_types::{
     EnumTypeDefinition, EnumTypeExtension, InputObjectTypeDefinition, InputObjectTypeExtension,
     ScalarTypeDefinition, ScalarTypeExtension, SchemaDefinition, SchemaExtension,
 };
-use tree_meaning::{DirectiveDefinition, FragmentDefinition, Node, OperationDefinition};
 
-/// The content, where the definition is of that variant, and `None` for every other.
+/// The content, if the definition is of that variant, and `None` for every other.
 impl Definition {
     /// The node of an [`OperationDefinition`].
     pub fn as_operation_definition(&self) -> Option<&Node<OperationDefinition>>

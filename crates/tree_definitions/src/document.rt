@@ -5,9 +5,9 @@ ghost use Rattle.tree_definitions.specs.Sources.{source_of, sources_of};
 
 use crate::definition::Definition;
 use indexmap::IndexMap;
+use spec_tree::FileId;
 use std::alloc::{AllocError, Global};
 use std::rc::RcStr;
-use tree_meaning::FileId;
 
 /// A text that was read, and the path of its file. What is read from the text shares it.
 #[derive(PartialEq, Eq, Hash)]
@@ -31,7 +31,7 @@ pub struct Document {
     pub definitions: Vec<Definition>,
 }
 
-// Not derived: a derived drop is proved again in each crate that drops one.
+// Not derived: a derived drop is proved again in every crate that uses it.
 impl Drop for Document {
     fn drop(self) {
         let Document {

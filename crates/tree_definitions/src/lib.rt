@@ -28,5 +28,5 @@ pub use tree_input_types::{
     ScalarTypeDefinition, ScalarTypeExtension, SchemaDefinition, SchemaExtension,
 };
 
-// Of the crates beneath, for those above.
-pub use tree_meaning::OperationType;
+// Re-exported from the crates below, for the crates above.
+pub use spec_tree::OperationType;

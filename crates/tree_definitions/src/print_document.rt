@@ -1,12 +1,13 @@
 //! Definitions in general, and whole documents.
 ghost use Rattle.std.specs.Prelude.{map};
 ghost use Rattle.std.specs.Option.{option_copied};
-ghost use Rattle.tree_meaning.specs.in_values.Levels.{level_depth};
+ghost use Rattle.spec_tree.specs.in_operations.Levels.{level_depth};
 ghost use Rattle.tree_definitions.specs.DefinitionTree.{definition_tree};
 ghost use Rattle.tree_definitions.specs.DocumentLayout.{definition_text, between_text, next_definition_text, end_text, document_text};
 ghost use Rattle.tree_definitions.specs.Printed.{further_definitions_text};
 
 use crate::definition::Definition;
+use spec_tree::{begins_output, put_fragment, put_operation};
 use tree_composite_types::{
     put_directive_definition, put_interface_definition, put_interface_extension,
     put_object_definition, put_object_extension, put_union_definition, put_union_extension,
@@ -17,9 +18,8 @@ use tree_input_types::{
     put_schema_extension,
 };
 use tree_literals::{Level, Sink, put_start};
-use tree_meaning::{begins_output, put_fragment, put_operation};
 
-/// A definition. `at_start` says whether nothing stands before it.
+/// A definition. `at_start` says whether nothing comes before it.
 pub(crate) fn put_definition<S: Sink>(
     sink: &mut S,
     prefix: Option<&str>,

@@ -1,16 +1,16 @@
 //! The texts of documents and of definitions in general by themselves.
 ghost use Rattle.std.specs.Prelude.{Some};
-ghost use Rattle.tree_meaning.specs.in_values.LineLayout.{default_prefix, standing};
-ghost use Rattle.tree_meaning.specs.in_values.OperationLayout.{begins_output};
+ghost use Rattle.spec_tree.specs.in_operations.LineLayout.{default_prefix, standing};
+ghost use Rattle.spec_tree.specs.in_operations.OperationLayout.{begins_output};
 ghost use Rattle.tree_definitions.specs.DefinitionTree.{definition_tree, document_tree};
 ghost use Rattle.tree_definitions.specs.DocumentLayout.{definition_text, document_text};
 
 use crate::definition::Definition;
 use crate::document::Document;
 use crate::print_document::{put_definition, put_document};
+use spec_tree::begins_output;
 use std::fmt;
 use tree_literals::{Level, Sink, Tree, put_start};
-use tree_meaning::begins_output;
 
 impl Tree for Definition {
     ghost text = { λ t prefix level. standing prefix level (definition_text (begins_output prefix level) prefix (definition_tree t) level) };

@@ -5,10 +5,10 @@ use Rattle.tree_literals.specs.in_names.declared.node.Node.{Node}
 use Rattle.tree_directives.specs.declared.directive.Directive.{Directive}
 use Rattle.tree_directives.specs.declared.directive_list.NamedDirectives.{NamedDirectives}
 
--- the name of the directive is this text
+-- whether the name of the directive is this text
 abbrev pub node_has_name : List ℕ → Node Directive → Bool
 node_has_name name d = bytes_eq (content d).name.text name
 
--- the directives that are left
+-- the directives that the iterator has left to give
 abbrev pub left_named : NamedDirectives → List (Node Directive)
 left_named s = filter (node_has_name s.name.now) s.rest.now

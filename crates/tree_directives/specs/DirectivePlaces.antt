@@ -1,9 +1,9 @@
--- Places of directives, in words (GraphQL, October 2021, section 3.13; DIRECTIVE_DEFINITION goes past it).
+-- Names of directive locations (GraphQL, October 2021, section 3.13; DIRECTIVE_DEFINITION is not in it).
 use Rattle.std.specs.Prelude.{ℕ, List, codes}
 use Rattle.tree_directives.specs.declared.directive_location.DirectiveLocation.{DirectiveLocation}
 use Rattle.tree_directives.specs.declared.directive_location.DirectiveLocation.TheVariants as location
 
--- a place of directives as it is written
+-- a directive location as it is written
 abbrev pub location_keyword : DirectiveLocation → List ℕ
 location_keyword location.Query = codes "QUERY"
 location_keyword location.Mutation = codes "MUTATION"

@@ -39,7 +39,7 @@ pub record InputValueTree (P : Type 0) : Type 0 where
 abbrev pub InputValues : Type 0 → Type 0
 InputValues P = List (Placed P (InputValueTree P))
 
--- directive @name(arguments) @directives repeatable on locations (its own directives go past October 2021)
+-- directive @name(arguments) @directives repeatable on locations (its own directives are not in October 2021)
 pub record DirectiveDefinitionTree (P : Type 0) : Type 0 where
   pub description : Option (Text P)
   pub name : Text P

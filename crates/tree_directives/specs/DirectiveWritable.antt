@@ -1,5 +1,5 @@
 -- Directives and definitions of input values and directives that the grammar can write (GraphQL, October 2021,
--- appendix B). `const` says that no variable may stand there.
+-- appendix B). `const` says that no variable is allowed.
 use Rattle.std.specs.Prelude.{Bool, true, false, not, ◌&&◌, List, [], ◌∷◌}
 use Rattle.std.specs.List.{list_all}
 use Rattle.tree_literals.specs.in_names.Placed.{Placed}
@@ -22,7 +22,7 @@ abbrev pub is_none_of : {A : Type 0} → List A → Bool
 is_none_of [] = true
 is_none_of (x ∷ xs) = false
 
--- directives by themselves: one at the least
+-- directives by themselves: at least one
 abbrev pub directive_list_writable : {P : Type 0} → Directives P → Bool
 directive_list_writable ds = not (is_none_of ds) && directives_writable false ds
 
@@ -32,6 +32,6 @@ input_value_writable v = default_writable v.default_value && directives_writable
 abbrev pub input_values_writable : {P : Type 0} → InputValues P → Bool
 input_values_writable vs = list_all (λ v. input_value_writable v.it) vs
 
--- a directive definition has a location, and no variable stands in its own directives
+-- a directive definition has a location, and its arguments and its own directives can be written, these without variables
 abbrev pub directive_definition_writable : {P : Type 0} → DirectiveDefinitionTree P → Bool
 directive_definition_writable d = input_values_writable d.arguments && (directives_writable true d.directives && not (is_none_of d.locations))

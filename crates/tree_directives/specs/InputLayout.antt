@@ -1,4 +1,4 @@
--- Definitions of arguments, of input fields and of directives (GraphQL, October 2021, sections 3.6.1, 3.10, 3.13).
+-- The texts of definitions of arguments, input fields and directives (GraphQL, October 2021, sections 3.6.1, 3.10, 3.13).
 use Rattle.std.specs.Prelude.{ℕ, ◌+◌, Bool, true, false, if◌then◌else◌, List, [], ◌∷◌, map, codes, None, Some, is_some}
 use Rattle.std.specs.List.{list_any}
 use Rattle.tree_literals.specs.Joined.{joined, further_text}
@@ -24,7 +24,7 @@ input_members_text prefix level vs = members_text prefix level (texts_of (input_
 abbrev pub is_described : {P : Type 0} → Placed P (InputValueTree P) → Bool
 is_described v = is_some v.it.description
 
--- argument definitions stand one a line exactly where one of them has a description
+-- whether argument definitions are printed one on each line, if the layout has lines: exactly when one of them has a description
 abbrev pub stand_on_lines : {P : Type 0} → InputValues P → Bool
 stand_on_lines vs = list_any is_described vs
 
@@ -32,7 +32,7 @@ stand_on_lines vs = list_any is_described vs
 abbrev pub arguments_in_line : {P : Type 0} → Prefix → InputValues P → ℕ → List ℕ
 arguments_in_line prefix vs level = parenthesized_text (texts_of (λ v. input_value_text prefix v level) vs)
 
--- ( arguments ) one a line, one level deeper, without commas
+-- ( arguments ), one on each line, one level deeper, without commas
 abbrev pub arguments_on_lines : {P : Type 0} → List ℕ → InputValues P → ℕ → List ℕ
 arguments_on_lines prefix vs level =
     joined (codes "(" ∷ input_members_text (Some prefix) (level + 1) vs ∷ break_text (Some prefix) level ∷ codes ")" ∷ [])
@@ -45,7 +45,7 @@ abbrev pub repeatable_text : Bool → List ℕ
 repeatable_text true = codes " repeatable"
 repeatable_text false = joined []
 
--- on A | B, and nothing at all without locations
+-- on A | B; the empty text without locations
 abbrev pub locations_text : List DirectiveLocation → List ℕ
 locations_text [] = joined []
 locations_text (l ∷ ls) = joined (codes " on " ∷ location_keyword l ∷ further_text (codes " | ") (map location_keyword ls) ∷ [])
@@ -55,6 +55,6 @@ abbrev pub undescribed_directive_text : {P : Type 0} → Prefix → DirectiveDef
 undescribed_directive_text prefix d level =
     joined (codes "directive @" ∷ d.name.it ∷ argument_definitions_text prefix d.arguments level ∷ directives_text d.directives ∷ repeatable_text d.repeatable ∷ locations_text d.locations ∷ [])
 
--- the same behind its description
+-- the same after its description
 abbrev pub directive_definition_text : {P : Type 0} → Prefix → DirectiveDefinitionTree P → Leveled
 directive_definition_text prefix d level = joined (description_text prefix level d.description ∷ undescribed_directive_text prefix d level ∷ [])

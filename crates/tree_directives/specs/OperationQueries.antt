@@ -1,4 +1,5 @@
--- Kinds of operations, in words, and where their directives stand (GraphQL, October 2021, sections 2.3, 3.3.1 and 3.13).
+-- The keywords, default root names and directive locations of operation types (GraphQL, October 2021, sections 2.3,
+-- 3.3.1 and 3.13).
 use Rattle.std.specs.Prelude.{ℕ, List, codes}
 use Rattle.tree_directives.specs.declared.operation_type.OperationType.{OperationType}
 use Rattle.tree_directives.specs.declared.operation_type.OperationType.TheVariants as operation
@@ -11,13 +12,13 @@ operation_keyword operation.Query = codes "query"
 operation_keyword operation.Mutation = codes "mutation"
 operation_keyword operation.Subscription = codes "subscription"
 
--- the name that the root type has if the schema does not say another (section 3.3.1)
+-- the default name of the root operation type (section 3.3.1)
 abbrev pub default_root_name : OperationType → List ℕ
 default_root_name operation.Query = codes "Query"
 default_root_name operation.Mutation = codes "Mutation"
 default_root_name operation.Subscription = codes "Subscription"
 
--- where the directives of an operation stand
+-- the location of directives of an operation
 abbrev pub location_of_operation : OperationType → DirectiveLocation
 location_of_operation operation.Query = location.Query
 location_of_operation operation.Mutation = location.Mutation

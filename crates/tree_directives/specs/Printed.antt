@@ -1,4 +1,4 @@
--- Private: leads to `directive_definition_text`. What its printers write on the way.
+-- Private: leads to `directive_definition_text`. Partial texts of its printers.
 use Rattle.std.specs.Prelude.{ℕ, List, codes}
 use Rattle.tree_literals.specs.in_names.declared.node.Node.{Node}
 use Rattle.tree_literals.specs.Joined.{further_text}

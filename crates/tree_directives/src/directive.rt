@@ -32,7 +32,7 @@ pub struct Directive {
     pub arguments: Vec<Node<Argument>>,
 }
 
-// Not derived: a derived drop is proved again in each crate that drops one.
+// Not derived: a derived drop is proved again in every crate that uses it.
 impl Drop for Directive {
     fn drop(self) {
         let Directive {
@@ -63,7 +63,7 @@ pub struct DirectiveDefinition {
     pub locations: Vec<DirectiveLocation>,
 }
 
-// Not derived: a derived drop is proved again in each crate that drops one.
+// Not derived: a derived drop is proved again in every crate that uses it.
 impl Drop for DirectiveDefinition {
     fn drop(self) {
         let DirectiveDefinition {

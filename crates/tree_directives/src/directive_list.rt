@@ -69,7 +69,7 @@ impl DirectiveList {
         }
     }
 
-    /// Puts a directive last. Where memory is refused the list stays as it was, and the directive comes back.
+    /// Puts a directive last. If memory is refused, the list is unchanged, and the directive comes back.
     pub fn push(&mut self, directive: Node<Directive>) -> Result<(), AllocFailed<Node<Directive>>>
         ensures items { self.new.0.items ≡ (if is_ok result then self.old.0.items ++ directive ∷ [] else self.old.0.items) }
         ensures value_returned { IfErr result (λ e. e.value ≡ directive) }

@@ -19,7 +19,7 @@ pub struct InputValueDefinition {
     pub directives: DirectiveList,
 }
 
-// Not derived: a derived drop is proved again in each crate that drops one.
+// Not derived: a derived drop is proved again in every crate that uses it.
 impl Drop for InputValueDefinition {
     fn drop(self) {
         let InputValueDefinition {

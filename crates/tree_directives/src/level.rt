@@ -1,5 +1,5 @@
 //! The level of what is printed, for the crates above.
 
-// An alias: a recursive type that is re-exported by `use` has no name in a crate that does not list its crate.
+// An alias, since a recursive type that `use` re-exports has no name in a crate that does not list its crate.
 /// As `tree_literals` has it.
 pub type Level<'a> = tree_literals::Level<'a>;

@@ -35,7 +35,7 @@ pub use writable_directive::{
     arguments_are_writable, directives_are_writable, input_values_are_writable,
 };
 
-// Of the crate beneath, for those above.
+// Re-exported from the crate below, for the crates above.
 pub use tree_literals::{
     Cause, Name, NamedType, Node, NodeStr, Serialize, Sink, SourceSpan, Tree, Type, Value,
     WriteFault, can_be_enum, copies_of_five, copies_of_four, copies_of_three, default_is_writable,

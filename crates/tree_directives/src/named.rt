@@ -44,7 +44,7 @@ impl Named for InputValueDefinition {
 
 /// The node of that name at that position among those of that name, counted from 0, to be written to, if there is one.
 /// What is written may have another name, which then counts.
-// Over a type parameter: a borrow of what holds a `&'static str`, as a name may, is not followed out of a call.
+// Over a type parameter, since a borrow of a value with a `&'static str`, as in a name, is not followed out of a call.
 pub fn get_named_mut<'a, T: Named>(
     nodes: &'a mut Vec<Node<T>>,
     name: &str,
@@ -54,11 +54,11 @@ pub fn get_named_mut<'a, T: Named>(
     ensures value { option_map (λ n. n.now) result ≡ slice_get (filter (is_named T.name_of name.now) nodes.old.items) position }
 {
     let place = nth_place(nodes, name, position);
-    // Where none has the name, the place is past the end, and nothing is lent.
+    // If there is no such node, the place is past the end, and nothing is lent.
     nodes.get_mut(place)
 }
 
-/// Where the node of that name at that position among those of that name stands, or how many nodes there are.
+/// The index of the node of that name at that position among those of that name; the number of nodes if there is none.
 fn nth_place<T: Named>(nodes: &[Node<T>], name: &str, position: usize) -> usize
     ensures { result ≡ nth_place (is_named T.name_of name.now) position nodes.now }
 {

@@ -26,7 +26,7 @@ impl OperationType {
         }
     }
 
-    /// The name that the root type has if the schema does not say another (section 3.3.1).
+    /// The default name of the root operation type (section 3.3.1).
     pub fn default_type_name(self) -> &'static str
         ensures { result.now ≡ default_root_name self }
     {
@@ -67,7 +67,7 @@ impl fmt::Display for OperationType {
     }
 }
 
-/// Where the directives of such an operation stand.
+/// The location of directives of such an operation.
 impl From<OperationType> for DirectiveLocation {
     ghost from_gives = { λ o l. l ≡ location_of_operation o };
 

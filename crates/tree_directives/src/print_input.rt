@@ -31,7 +31,7 @@ pub fn put_input_value<S: Sink>(
     put_directives(sink, &input.directives);
 }
 
-// A description is on a line of its own: where one argument has one, each argument takes a line.
+// A description is on a line of its own: if any argument has one, each argument takes a line.
 fn stand_on_lines(arguments: &[Node<InputValueDefinition>]) -> bool
     ensures { result ≡ stand_on_lines (input_value_trees arguments.now) }
 {

@@ -10,7 +10,7 @@ use crate::directive::{Argument, Directive, DirectiveDefinition, DirectiveList};
 use crate::input_value::InputValueDefinition;
 use tree_literals::{Node, default_is_writable, value_is_writable};
 
-/// Whether the grammar can write arguments. `is_const` says that no variable may stand there. Public for the crates above.
+/// Whether the grammar can write arguments. `is_const` says that no variable is allowed. Public for the crates above.
 pub fn arguments_are_writable(is_const: bool, arguments: &[Node<Argument>]) -> bool
     ensures { result ≡ arguments_writable is_const (map (node_tree argument_tree) arguments.now) }
 {
@@ -33,7 +33,7 @@ fn each_directive_is_writable(is_const: bool, directives: &[Node<Directive>]) ->
     true
 }
 
-/// The same of directives.
+/// The same for directives.
 pub fn directives_are_writable(is_const: bool, directives: &DirectiveList) -> bool
     ensures { result ≡ directives_writable is_const (directives_tree directives.now) }
 {
@@ -71,7 +71,7 @@ impl Directive {
 }
 
 impl DirectiveList {
-    /// Whether the grammar can write it: it asks for one directive at the least.
+    /// Whether the grammar can write it: it requires at least one directive.
     pub fn is_writable(&self) -> bool
         ensures { result ≡ directive_list_writable (directives_tree self.now) }
     {

@@ -1,5 +1,5 @@
--- The parts of definitions and extensions of the schema (GraphQL, October 2021, section 3.3) and of the types that
--- input can have (sections 3.5, 3.9 and 3.10).
+-- The parts of definitions and extensions of the schema (GraphQL, October 2021, section 3.3) and of input types
+-- (sections 3.5, 3.9 and 3.10).
 use Rattle.std.specs.Prelude.{map}
 use Rattle.tree_literals.specs.in_names.Placed.{Place, name_tree, node_tree}
 use Rattle.tree_type_members.specs.in_directives.DirectiveTree.{directives_tree, input_value_tree}

@@ -1,4 +1,4 @@
--- Private: leads to `schema_text`. What its printers write on the way.
+-- Private: leads to `schema_text`. Partial texts of its printers.
 use Rattle.std.specs.Prelude.{ℕ, List, map}
 use Rattle.tree_literals.specs.in_names.Placed.{node_tree}
 use Rattle.tree_literals.specs.in_names.declared.name.Name.{Name}
@@ -8,7 +8,7 @@ use Rattle.tree_literals.specs.LineLayout.{Prefix, member_text, members_text, te
 use Rattle.tree_type_members.specs.TypeSystemLayout.{root_text}
 use Rattle.tree_input_types.specs.InputTypeTree.{root_tree}
 
--- a root on a line of its own, and all of a list
+-- a root operation type on a line of its own, and all of a list
 abbrev pub root_member_text : Prefix → ℕ → OperationType → Name → List ℕ
 root_member_text prefix level operation name = member_text prefix level (root_text (root_tree (operation, name)))
 

@@ -17,7 +17,7 @@ pub struct EnumTypeDefinition {
     pub values: Vec<Node<EnumValueDefinition>>,
 }
 
-// Not derived: a derived drop is proved again in each crate that drops one.
+// Not derived: a derived drop is proved again in every crate that uses it.
 impl Drop for EnumTypeDefinition {
     fn drop(self) {
         let EnumTypeDefinition {
@@ -37,7 +37,7 @@ pub struct EnumTypeExtension {
     pub values: Vec<Node<EnumValueDefinition>>,
 }
 
-// Not derived: a derived drop is proved again in each crate that drops one.
+// Not derived: a derived drop is proved again in every crate that uses it.
 impl Drop for EnumTypeExtension {
     fn drop(self) {
         let EnumTypeExtension {

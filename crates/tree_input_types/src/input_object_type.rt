@@ -17,7 +17,7 @@ pub struct InputObjectTypeDefinition {
     pub fields: Vec<Node<InputValueDefinition>>,
 }
 
-// Not derived: a derived drop is proved again in each crate that drops one.
+// Not derived: a derived drop is proved again in every crate that uses it.
 impl Drop for InputObjectTypeDefinition {
     fn drop(self) {
         let InputObjectTypeDefinition {
@@ -37,7 +37,7 @@ pub struct InputObjectTypeExtension {
     pub fields: Vec<Node<InputValueDefinition>>,
 }
 
-// Not derived: a derived drop is proved again in each crate that drops one.
+// Not derived: a derived drop is proved again in every crate that uses it.
 impl Drop for InputObjectTypeExtension {
     fn drop(self) {
         let InputObjectTypeExtension {

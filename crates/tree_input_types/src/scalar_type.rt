@@ -16,7 +16,7 @@ pub struct ScalarTypeDefinition {
     pub directives: DirectiveList,
 }
 
-// Not derived: a derived drop is proved again in each crate that drops one.
+// Not derived: a derived drop is proved again in every crate that uses it.
 impl Drop for ScalarTypeDefinition {
     fn drop(self) {
         let ScalarTypeDefinition {
@@ -34,7 +34,7 @@ pub struct ScalarTypeExtension {
     pub directives: DirectiveList,
 }
 
-// Not derived: a derived drop is proved again in each crate that drops one.
+// Not derived: a derived drop is proved again in every crate that uses it.
 impl Drop for ScalarTypeExtension {
     fn drop(self) {
         let ScalarTypeExtension {

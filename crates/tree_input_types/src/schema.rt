@@ -16,7 +16,7 @@ pub struct SchemaDefinition {
     pub root_operations: Vec<Node<(OperationType, NamedType)>>,
 }
 
-// Not derived: a derived drop is proved again in each crate that drops one.
+// Not derived: a derived drop is proved again in every crate that uses it.
 impl Drop for SchemaDefinition {
     fn drop(self) {
         let SchemaDefinition {
@@ -34,7 +34,7 @@ pub struct SchemaExtension {
     pub root_operations: Vec<Node<(OperationType, NamedType)>>,
 }
 
-// Not derived: a derived drop is proved again in each crate that drops one.
+// Not derived: a derived drop is proved again in every crate that uses it.
 impl Drop for SchemaExtension {
     fn drop(self) {
         let SchemaExtension {

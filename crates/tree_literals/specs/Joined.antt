@@ -20,7 +20,7 @@ abbrev pub separated : List ℕ → List (List ℕ) → List ℕ
 separated separator [] = joined []
 separated separator (text ∷ texts) = joined (text ∷ further_text separator texts ∷ [])
 
--- texts and then one more are the texts together and then the one
+-- to join texts and one more is to append that one to the joined texts
 pub joined-push : (texts : List (List ℕ)) (text : List ℕ) → joined (texts ++ text ∷ []) ≡ joined texts ++ text
 unfolding joined
 joined-push [] text = append-nil text

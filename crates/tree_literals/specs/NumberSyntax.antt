@@ -14,7 +14,7 @@ abbrev pub is_nothing : List ℕ → Bool
 is_nothing [] = true
 is_nothing (c ∷ cs) = false
 
--- a `0` with digits behind it
+-- whether the text is a `0` with something after it
 abbrev pub has_leading_zero : List ℕ → Bool
 has_leading_zero [] = false
 has_leading_zero (d ∷ ds) = (d == 48) && not (is_nothing ds)
@@ -23,12 +23,12 @@ has_leading_zero (d ∷ ds) = (d == 48) && not (is_nothing ds)
 abbrev pub is_natural : List ℕ → Bool
 is_natural text = is_digits text && not (has_leading_zero text)
 
--- the text without the sign `-`, if that stands first
+-- the text without the sign `-`, if that comes first
 abbrev pub without_minus : List ℕ → List ℕ
 without_minus [] = []
 without_minus (c ∷ cs) = cond (c == 45) cs (c ∷ cs)
 
--- the text without the sign `+` or `-`, if one stands first
+-- the text without the sign `+` or `-`, if one comes first
 abbrev pub without_sign : List ℕ → List ℕ
 without_sign [] = []
 without_sign (c ∷ cs) = cond (c == 43 || c == 45) cs (c ∷ cs)
@@ -42,12 +42,12 @@ abbrev pub is_fraction : List ℕ → Bool
 is_fraction [] = false
 is_fraction (c ∷ cs) = (c == 46) && is_digits cs
 
--- ExponentPart: `e` or `E`, a sign or none, and Digits
+-- ExponentPart: `e` or `E`, an optional sign, and Digits
 abbrev pub is_exponent : List ℕ → Bool
 is_exponent [] = false
 is_exponent (c ∷ cs) = (c == 101 || c == 69) && is_digits (without_sign cs)
 
--- the text is made of two parts, first a p and then a q
+-- the text is made of two parts, of which the first passes p and the second q
 abbrev pub followed_by : (List ℕ → Bool) → (List ℕ → Bool) → List ℕ → Bool
 followed_by p q [] = p [] && q []
 followed_by p q (c ∷ cs) = (p [] && q (c ∷ cs)) || followed_by (λ ds. p (c ∷ ds)) q cs

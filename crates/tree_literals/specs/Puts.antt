@@ -16,13 +16,14 @@ use Rattle.tree_literals.specs.declared.sink.Printer.{Printer}
 abbrev pub printer_writer : {W : Type 0} → Printer W → W
 printer_writer p = device_inner p.device.now
 
--- what the cause says of a text of which `front` bytes are out: all, fewer because the writer failed, or too many to count
+-- what the cause says if `front` bytes of the text are out: all are out; or fewer, because the writer failed; or the whole text would
+-- bring the count of bytes to `2 ^ 64` or more
 abbrev pub StopsFor : {W : Type 0} → ℕ → ℕ → List ℕ → Device W → Option Cause → Type 0
 StopsFor before front text device None = front ≡ length text
 StopsFor before front text device (Some Writer) = (front < length text) × (device_failed device ≡ true)
 StopsFor before front text device (Some Level) = 2 ^ 64 ≤ before + length text
 
--- a front of the text is out, and it is counted
+-- a prefix of the text is out, and its bytes are counted
 pub record PutsFront {W : Type 0} (contents : W → Option (List ℕ)) (s : Printer W) (text : List ℕ) (t : Printer W) : Type 0 where
   pub front : ℕ
   pub within : front ≤ length text
@@ -30,12 +31,12 @@ pub record PutsFront {W : Type 0} (contents : W → Option (List ℕ)) (s : Prin
   pub counted : t.out ≡ s.out + front
   pub stops : StopsFor s.out front text t.device.now t.cause
 
--- a printer with a cause stays as it is, and another puts a front
+-- a printer with a cause is unchanged, and one without a cause puts a prefix of the text
 abbrev pub PutsFrom : {W : Type 0} → (W → Option (List ℕ)) → Option Cause → Printer W → List ℕ → Printer W → Type 0
 PutsFrom contents None s text t = PutsFront contents s text t
 PutsFrom contents (Some cause) s text t = t ≡ s
 
--- the text was put, through the same reference
+-- the text was put through the same reference
 abbrev pub PutsOut : {W : Type 0} → (W → Option (List ℕ)) → Printer W → List ℕ → Printer W → Type 0
 PutsOut contents s text t = (t.device.ghost_name ≡ s.device.ghost_name) × PutsFrom contents s.cause s text t
 
@@ -90,11 +91,11 @@ module _ {W : Type 0} (contents : W → Option (List ℕ)) where
   unfolding joined
   PutsOut-none s = (refl, puts_nothing s s.cause refl)
 
-  -- a text and then further ones are all together
+  -- to put a text and then further ones joined is to put all of them joined
   pub PutsOut-part : (s t u : Printer W) (text : List ℕ) (texts : List (List ℕ)) → PutsOut contents s text t → PutsOut contents t (joined texts) u → PutsOut contents s (joined (text ∷ texts)) u
   unfolding joined
   PutsOut-part s t u text texts p q = (q.0 ∙ p.0, puts_then s t u text (joined texts) s.cause t.cause refl refl p.1 q.1)
 
-  -- texts and then one more are all together
+  -- to put texts joined and then one more is to put all of them joined
   pub PutsOut-more : (s t u : Printer W) (texts : List (List ℕ)) (text : List ℕ) → PutsOut contents s (joined texts) t → PutsOut contents t text u → PutsOut contents s (joined (texts ++ text ∷ [])) u
   PutsOut-more s t u texts text p q = rw joined-push (q.0 ∙ p.0, puts_then s t u (joined texts) text s.cause t.cause refl refl p.1 q.1)

@@ -6,7 +6,7 @@ use Rattle.std.specs.Fmt.{HasWritten, IsPlainFormatter, WritesInCalls}
 use Rattle.tree_literals.specs.Joined.{joined, joined-push}
 use Rattle.tree_literals.specs.declared.shown.Shown.{Shown}
 
--- the text was written through the same reference, unless it has failed
+-- the reference is the same; and unless writing has failed, it had not failed before, and the text was written if the formatter is plain
 abbrev pub PutsShown : {W : Type 0} → (W → List ℕ → W → Type 0) → Shown W → List ℕ → Shown W → Type 0
 PutsShown took s text t = (t.f.ghost_name ≡ s.f.ghost_name)
     × (t.failed ≡ false → (s.failed ≡ false) × (IsPlainFormatter s.f.now → HasWritten took s.f.now text t.f.now))

@@ -1,5 +1,5 @@
--- Strings and descriptions (GraphQL, October 2021, section 2.9.4). Texts are their bytes in UTF-8: all characters
--- that are written otherwise than as they are have one byte.
+-- The texts of strings and descriptions (GraphQL, October 2021, section 2.9.4). Texts are their bytes in UTF-8:
+-- every character that is escaped has one byte.
 use Rattle.std.specs.Prelude.{ℕ, ◌/◌, ◌%◌, ◌==◌, nat_lt, Bool, true, false, not, ◌||◌, ◌&&◌, if◌then◌else◌, List, [], ◌∷◌, map, codes, Option, None, Some}
 use Rattle.std.specs.List.{list_any, list_all, slice_split}
 use Rattle.std.specs.Fmt.{digit_glyph}
@@ -11,7 +11,7 @@ use Rattle.tree_literals.specs.LineLayout.{Prefix, line_start, break_text}
 abbrev pub control_text : ℕ → List ℕ
 control_text b = joined (codes "\\u00" ∷ (digit_glyph true (b / 16) ∷ []) ∷ (digit_glyph true (b % 16) ∷ []) ∷ [])
 
--- a byte within quotes: quotation mark, backslash, LF, CR, tab, BS, FF, other control characters, and all else as it is
+-- a byte within quotes: quotation mark, backslash, LF, CR, tab, BS, FF and other control characters are escaped, all else is not
 abbrev pub escaped_byte : ℕ → List ℕ
 escaped_byte b =
     if b == 34 then codes "\\\""
@@ -31,14 +31,14 @@ escaped_text text = joined (map escaped_byte text)
 abbrev pub quoted_text : List ℕ → List ℕ
 quoted_text text = joined (codes "\"" ∷ escaped_text text ∷ codes "\"" ∷ [])
 
--- what stands between the line feeds of a text
+-- the lines of a text, which line feeds separate
 abbrev pub text_lines : List ℕ → List (List ℕ)
 text_lines text = slice_split (λ b. b == 10) text
 
 abbrev pub is_tab_or_space : ℕ → Bool
 is_tab_or_space b = (b == 9) || (b == 32)
 
--- tabs and spaces alone, or nothing
+-- only tabs and spaces, or nothing
 abbrev pub is_blank : List ℕ → Bool
 is_blank line = list_all is_tab_or_space line
 
@@ -59,8 +59,8 @@ last_is_blank (line ∷ next ∷ lines) = last_is_blank (next ∷ lines)
 abbrev pub has_byte : ℕ → List ℕ → Bool
 has_byte x text = list_any (λ b. b == x) text
 
--- whether the lines of a text, set as a block string, are read back as they are: no CR, no blank line at either end
--- (so the text is not empty), and some line at the margin, so that no common indent is taken from them
+-- whether the lines of a text, printed as a block string, are read back unchanged: no CR, no blank line at either end
+-- (so the text is not empty), and some line at the margin, so that no common indent is removed
 abbrev pub can_be_block_string : List ℕ → Bool
 can_be_block_string text =
     not (has_byte 13 text)
@@ -78,7 +78,7 @@ block_escaped (a ∷ []) = a ∷ []
 block_escaped (a ∷ b ∷ []) = a ∷ b ∷ []
 block_escaped (a ∷ b ∷ c ∷ text) = if is_quotes a b c then 92 ∷ 34 ∷ 34 ∷ 34 ∷ block_escaped text else a ∷ block_escaped (b ∷ c ∷ text)
 
--- a line of a block string, from the end of the line before
+-- a line of a block string, with the line feed before it
 abbrev pub block_line : List ℕ → ℕ → List ℕ → List ℕ
 block_line prefix level [] = codes "\n"
 block_line prefix level (b ∷ line) = joined (codes "\n" ∷ line_start prefix level ∷ block_escaped (b ∷ line) ∷ [])
@@ -88,7 +88,7 @@ abbrev pub block_text : List ℕ → ℕ → List ℕ → List ℕ
 block_text prefix level text =
     joined (codes "\"\"\"" ∷ joined (map (block_line prefix level) (text_lines text)) ∷ break_text (Some prefix) level ∷ codes "\"\"\"" ∷ [])
 
--- a description is a block string where there are lines, it holds a line feed, and it can be one
+-- a description is printed as a block string if the layout has lines and its text has a line feed and can be a block string
 abbrev pub description_string : Prefix → ℕ → List ℕ → List ℕ
 description_string None level text = quoted_text text
 description_string (Some prefix) level text = if has_byte 10 text && can_be_block_string text then block_text prefix level text else quoted_text text

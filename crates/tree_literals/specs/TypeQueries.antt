@@ -46,7 +46,7 @@ module _ {P : Type 0} where
   is_list_type (ListTree t) = true
   is_list_type (NonNullListTree t) = true
 
-  -- a value of the first type may stand where the second is asked for: the same name within the same lists,
+  -- a value of the first type may be used where the second is asked for: the same name in the same lists,
   -- and non-null wherever the second is (section 5.8.5, AreTypesCompatible)
   abbrev pub AreTypesCompatible : TypeTree P → TypeTree P → Type 0
   AreTypesCompatible (NamedTree a) (NamedTree b) = a.it ≡ b.it

@@ -17,7 +17,7 @@ type_tree_step (NonNullNamed n) = NonNullNamedTree (name_tree n)
 type_tree_step (List t) = ListTree t.value
 type_tree_step (NonNullList t) = NonNullListTree t.value
 
--- what a reference to a type is
+-- the tree of a reference to a type
 abbrev pub type_tree : «Type» → TypeTree Place
 type_tree = fold-Type (TypeTree Place) type_tree_step
 

@@ -1,4 +1,4 @@
--- Types and values (GraphQL, October 2021, sections 2.9 and 2.11).
+-- The texts of types and values (GraphQL, October 2021, sections 2.9 and 2.11).
 use Rattle.std.specs.Prelude.{ℕ, Bool, true, false, List, [], ◌∷◌, codes, Option, None, Some}
 use Rattle.tree_literals.specs.Joined.{joined, separated}
 use Rattle.graphql_names.specs.Placed.{Placed}
@@ -17,11 +17,11 @@ abbrev pub boolean_text : Bool → List ℕ
 boolean_text true = codes "true"
 boolean_text false = codes "false"
 
--- [items], and [] without any
+-- [items]; [] without items
 abbrev pub list_text : List (List ℕ) → List ℕ
 list_text items = joined (codes "[" ∷ separated (codes ", ") items ∷ codes "]" ∷ [])
 
--- {fields}, and {} without any
+-- {fields}; {} without fields
 abbrev pub object_text : List (List ℕ) → List ℕ
 object_text fields = joined (codes "{" ∷ separated (codes ", ") fields ∷ codes "}" ∷ [])
 

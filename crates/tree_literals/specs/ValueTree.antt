@@ -9,7 +9,7 @@ use Rattle.tree_literals.specs.declared.value.Value.{Value}
 use Rattle.tree_literals.specs.declared.value.Value.TheOpen.{Value-F, Null, Enum, Variable, String, Float, Int, Boolean, List as ListOf, Object}
 use Rattle.tree_literals.specs.declared.value.Value.TheFolds.{fold-Value}
 
--- a value: the text of a string is what it stands for, that of a number is as it is written
+-- a value; a string is the text that it stands for, a number is the text as it is written
 mutual
   pub data ValueTree (P : Type 0) : Type 0 where
     NullTree : ValueTree P
@@ -51,7 +51,7 @@ value_tree_step (Boolean b) = BooleanTree b
 value_tree_step (ListOf v) = ListTree (item_trees (λ t. t) v.items)
 value_tree_step (Object v) = ObjectTree (entry_trees (λ t. t) v.items)
 
--- what a value is
+-- the tree of a value
 abbrev pub value_tree : Value → ValueTree Place
 value_tree = fold-Value (ValueTree Place) value_tree_step
 

@@ -1,5 +1,5 @@
--- Types and values that the grammar can write (GraphQL, October 2021, appendix B): what it asks of a tree beside its
--- form. Names and numbers are well formed by their types.
+-- Types and values that the grammar can write (GraphQL, October 2021, appendix B): what it requires of a tree apart from
+-- its form. Names and numbers are well formed by their types.
 use Rattle.std.specs.Prelude.{ℕ, Bool, true, false, not, ◌&&◌, List, codes, nat_eq, Option, None, Some}
 use Rattle.std.specs.Cmp.Lexicographic.{pointwise}
 use Rattle.graphql_names.specs.Placed.{Placed}
@@ -9,7 +9,7 @@ use Rattle.tree_literals.specs.ValueTree.{ValueTree, NullTree, EnumTree, Variabl
 abbrev pub is_text : List ℕ → List ℕ → Bool
 is_text wanted text = pointwise nat_eq text wanted
 
--- of a reference to a type the grammar asks nothing more
+-- the grammar requires nothing more of a reference to a type
 abbrev pub type_writable : {P : Type 0} → TypeTree P → Bool
 type_writable (NamedTree n) = true
 type_writable (NonNullNamedTree n) = true
@@ -20,7 +20,7 @@ type_writable (NonNullListTree t) = type_writable t
 abbrev pub can_be_enum : List ℕ → Bool
 can_be_enum text = not (is_text (codes "true") text) && not (is_text (codes "false") text) && not (is_text (codes "null") text)
 
--- Below, `const` says that no variable may stand there.
+-- Below, `const` says that no variable is allowed.
 abbrev mutual
   pub value_writable : {P : Type 0} → Bool → ValueTree P → Bool
   value_writable const NullTree = true
@@ -41,7 +41,7 @@ abbrev mutual
   entries_writable const no_entries = true
   entries_writable const (entry_then n p t ts) = value_writable const t && entries_writable const ts
 
--- a default value holds no variable
+-- a default value can be written, and has no variable
 abbrev pub default_writable : {P : Type 0} → Option (Placed P (ValueTree P)) → Bool
 default_writable None = true
 default_writable (Some v) = value_writable true v.it

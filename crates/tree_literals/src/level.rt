@@ -1,10 +1,10 @@
-//! How deep a line stands.
+//! The level of a line.
 
-/// How many prefixes stand before a line. It cannot overflow, since each level inside is a call.
+/// How many prefixes a line has. The number cannot overflow, since each level inside is a call.
 #[derive(Clone, Copy)]
 pub enum Level<'a> {
-    /// So many, from the start.
+    /// This many, from the start.
     Outer(usize),
-    /// One more than the level round it.
+    /// One more than the level around it.
     In(&'a Level<'a>),
 }

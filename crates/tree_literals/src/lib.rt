@@ -37,5 +37,5 @@ pub use ty::{NamedType, Type};
 pub use value::Value;
 pub use writable::{can_be_enum, default_is_writable, value_is_writable};
 
-// Of the crates beneath, for those above.
+// Re-exported from the crates below, for the crates above.
 pub use graphql_names::{FileId, Name, Node, NodeStr, SourceSpan, Spent};

@@ -98,7 +98,7 @@ impl IntValue {
     }
 
     /// The number, where it fits 32 bits.
-    // An Int has 32 bits (section 3.5.1), whatever the grammar lets a text write.
+    // An Int has 32 bits (section 3.5.1), although the grammar allows any number of digits.
     #[tactic(auto, using(crate::proofs::IntegerText::integer_text_rules))]
     pub fn try_to_i32(&self) -> Option<i32>
         ensures { SomeIff result (FitsSigned w32 (integer_value self.now.text)) (integer_value self.now.text) }

@@ -30,7 +30,7 @@ fn without_sign(bytes: &[u8]) -> &[u8]
     }
 }
 
-/// How many digits stand first.
+/// How many digits come first.
 #[tactic(auto, using(crate::proofs::NumberLemmas::prefix_len_rules))]
 pub fn digits_len(bytes: &[u8]) -> usize
     ensures count { result ≡ prefix_len is_ascii_digit bytes.now }

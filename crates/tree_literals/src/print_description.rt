@@ -74,7 +74,7 @@ fn lines_end_well(text: &str) -> bool
 }
 
 /// Whether the text's lines, set as a block string, are read back as they are.
-// Reading drops blank lines at both ends and the common indent, and takes `\r` for the end of a line (section 2.9.4).
+// Reading drops blank lines at both ends and the common indent, and takes `\r` as the end of a line (section 2.9.4).
 fn can_be_block_string(text: &str) -> bool
     ensures { result ≡ can_be_block_string text.now }
 {
@@ -90,7 +90,7 @@ fn begins_with_quotes(bytes: &[u8]) -> bool
     }
 }
 
-/// Where the first `"""` stands.
+/// Where the first `"""` is.
 fn first_quotes(bytes: &[u8]) -> Option<usize>
     ensures { MatchOption result (block_escaped bytes.now ≡ bytes.now) (λ i. FirstQuotes bytes.now i) }
 {

@@ -16,7 +16,7 @@ fn put_times<S: Sink>(sink: &mut S, text: &str, times: usize)
         return;
     }
     for _ in 0..times {
-        // A level may be large: once the sink has failed the rest is not counted out.
+        // A level may be large: once the sink has failed, the rest of the prefixes is skipped.
         if sink.is_stopped() {
             return;
         }
@@ -37,7 +37,7 @@ pub fn put_line_start<S: Sink>(sink: &mut S, prefix: &str, level: &Level)
     }
 }
 
-/// What stands before the first line of a whole text. Public for the printers of the crates above.
+/// What begins the first line of a whole text. Public for the printers of the crates above.
 pub fn put_start<S: Sink>(sink: &mut S, prefix: Option<&str>, level: &Level)
     ensures { S.puts sink.old (start_text (option_copied prefix.entry) (level_depth level.now)) sink.new }
 {

@@ -91,7 +91,7 @@ fn plain_front(bytes: &[u8]) -> usize
     front
 }
 
-/// Where the first byte stands that is escaped.
+/// Where the first byte is that is escaped.
 fn first_escape(bytes: &[u8]) -> Option<usize>
     ensures { MatchOption result (escaped_text bytes.now ≡ bytes.now) (λ i. FirstEscape bytes.now i) }
 {

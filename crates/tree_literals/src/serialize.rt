@@ -78,7 +78,7 @@ impl<'a, T> Serialize<'a, T> {
         }
     }
 
-    /// With so many prefixes before each line that is not empty, the first too.
+    /// With this many prefixes before each line that is not empty, also the first.
     pub fn initial_indent_level(self, level: usize) -> Self
         ensures tree { result.tree.now ≡ self.entry.tree.now }
         ensures prefix { option_copied result.prefix ≡ option_copied self.entry.prefix }

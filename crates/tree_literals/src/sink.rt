@@ -6,6 +6,7 @@ ghost use Rattle.tree_literals.specs.Puts.{PutsOut, PutsOut-none, PutsOut-part, 
 
 use graphql_names::Device;
 use std::io::Write;
+use thiserror::Error;
 
 /// Takes text in order. After a failure it takes nothing more.
 pub trait Sink {
@@ -39,11 +40,12 @@ pub enum Cause {
 }
 
 /// What kept a text from being all out, and how many of its bytes are out.
-#[derive(Clone, Copy, Debug, PartialEq, Eq)]
+#[derive(Clone, Copy, Debug, PartialEq, Eq, Error)]
+#[error("the text is not all out")]
 pub struct WriteFault {
-    /// What kept it from that.
+    /// Why the text is not all out.
     pub cause: Cause,
-    /// So many bytes of the text are out, from its beginning.
+    /// How many bytes of the text are out, from its beginning.
     pub out: usize,
 }
 

@@ -114,7 +114,7 @@ impl Type {
         }
     }
 
-    /// Whether a value of this type may stand where `target` is asked for: the same name within the same lists, and
+    /// Whether a value of this type may be used where `target` is asked for: the same name in the same lists, and
     /// non-null wherever `target` is (section 5.8.5).
     pub fn is_assignable_to(&self, target: &Type) -> bool
         ensures { IsTrue result ↔ AreTypesCompatible (type_tree self.now) (type_tree target.now) }
@@ -148,7 +148,7 @@ impl Clone for Type {
         match self {
             Type::Named(name) => Ok(Type::Named(name.clone()?)),
             Type::NonNullNamed(name) => Ok(Type::NonNullNamed(name.clone()?)),
-            // The copy takes its memory where the original did, as `clone` is given none.
+            // The copy uses the allocator of the original, as `clone` is given none.
             Type::List(item) => Ok(Type::List(Box::new(*Box::allocator(item), (**item).clone()?)?)),
             Type::NonNullList(item) => Ok(Type::NonNullList(Box::new(
                 *Box::allocator(item),

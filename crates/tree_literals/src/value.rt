@@ -22,7 +22,7 @@ pub enum Value {
     Int(IntValue),
     Boolean(bool),
     List(Vec<Node<Value>>),
-    // A list and no map: a key may be written twice, which a rule tells.
+    // A list rather than a map: a key may be written twice, which a validation rule reports.
     Object(Vec<(Name, Node<Value>)>),
 }
 

@@ -18,7 +18,7 @@ pub fn can_be_enum(name: &Name) -> bool
     !(text == "true") && !(text == "false") && !(text == "null")
 }
 
-/// Whether the grammar can write a value. `is_const` says that no variable may stand there. Public for the crates above.
+/// Whether the grammar can write a value. `is_const` says that no variable is allowed. Public for the crates above.
 #[cycle(writable)]
 #[tactic(auto, using(crate::proofs::Trees::value_tree_rules))]
 pub fn value_is_writable(is_const: bool, value: &Value) -> bool

@@ -1,3 +1,9 @@
 pub mod SelectionTrees
 pub mod PrintedSelections
 pub mod OperationExamples
+pub mod Decided
+pub mod TypeEquality
+pub mod ValueEquality
+pub mod DirectiveEquality
+pub mod SelectionEquality
+pub mod OperationEquality

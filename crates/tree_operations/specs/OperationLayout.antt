@@ -1,4 +1,4 @@
--- Selections, operations and fragments (GraphQL, October 2021, sections 2.3 to 2.5, 2.8, 2.10).
+-- The texts of selections, operations and fragments (GraphQL, October 2021, sections 2.3 to 2.5, 2.8, 2.10).
 use Rattle.std.specs.Prelude.{ℕ, ◌==◌, Bool, true, false, ◌&&◌, ◌||◌, if◌then◌else◌, List, [], ◌∷◌, codes, Option, None, Some}
 use Rattle.tree_directives.specs.in_literals.Joined.{joined}
 use Rattle.tree_directives.specs.in_literals.in_names.Placed.{Placed, Text}
@@ -13,7 +13,7 @@ use Rattle.tree_operations.specs.OperationQueries.{operation_keyword}
 use Rattle.tree_directives.specs.declared.operation_type.OperationType.{OperationType}
 use Rattle.tree_directives.specs.declared.operation_type.OperationType.TheVariants.{Query, Mutation, Subscription}
 
--- alias:, before a field
+-- alias: before a field
 abbrev pub alias_text : {P : Type 0} → Option (Text P) → List ℕ
 alias_text None = joined []
 alias_text (Some n) = joined (n.it ∷ codes ": " ∷ [])
@@ -71,7 +71,7 @@ is_empty (x ∷ xs) = false
 abbrev pub is_bare_query : {P : Type 0} → OperationTree P → Bool
 is_bare_query o = is_query o.operation_type && is_none o.name && is_empty o.variables && is_empty o.directives
 
--- the name of an operation, behind its type
+-- the name of an operation, after its type
 abbrev pub operation_name_text : {P : Type 0} → Option (Text P) → List ℕ
 operation_name_text None = joined []
 operation_name_text (Some n) = joined (codes " " ∷ n.it ∷ [])
@@ -87,7 +87,7 @@ abbrev pub operation_text : {P : Type 0} → Bool → Prefix → OperationTree P
 operation_text at_start prefix o level =
     if at_start && is_bare_query o then braced_text prefix level (selection_texts prefix o.selections) else full_operation_text prefix o level
 
--- whether no byte stands before what begins a whole text
+-- whether no byte comes before the first definition of a whole text
 abbrev pub begins_output : Prefix → ℕ → Bool
 begins_output None level = true
 begins_output (Some prefix) level = (level == 0) || is_empty prefix

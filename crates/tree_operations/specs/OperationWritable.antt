@@ -14,7 +14,7 @@ can_be_fragment text = not (is_text (codes "on") text)
 abbrev pub head_writable : {P : Type 0} → FieldHead P → Bool
 head_writable f = arguments_writable false f.arguments && directives_writable false f.directives
 
--- the selection set of an operation, a fragment or an inline fragment has a selection; that of a field may be left out
+-- whether there is a selection, as an operation, a fragment or an inline fragment must have one; a field need not
 abbrev pub has_selection : {P : Type 0} → SelectionTrees P → Bool
 has_selection no_selections = false
 has_selection (selection_then t ts) = true
@@ -29,7 +29,7 @@ abbrev mutual
   selections_writable no_selections = true
   selections_writable (selection_then t ts) = selection_writable t && selections_writable ts
 
--- the directives of a variable's definition hold no variable
+-- the default value and the directives of a variable's definition can be written, without variables
 abbrev pub variable_writable : {P : Type 0} → VariableDefinitionTree P → Bool
 variable_writable v = default_writable v.default_value && directives_writable true v.directives
 

@@ -1,4 +1,4 @@
--- Private: leads to `operation_text` and `fragment_text`. What printers of selections write on the way.
+-- Private: leads to `operation_text` and `fragment_text`. Partial texts of printers of selections.
 use Rattle.std.specs.Prelude.{ℕ, List}
 use Rattle.tree_directives.specs.in_literals.LineLayout.{Prefix, member_text, members_text, set_text}
 use Rattle.tree_operations.specs.SelectionTree.{selection_tree, selection_trees}
@@ -12,6 +12,6 @@ selection_member_text prefix level t = member_text prefix level (selection_text 
 abbrev pub selection_members_text : Prefix → ℕ → List Selection → List ℕ
 selection_members_text prefix level ts = members_text prefix level (selection_texts prefix (selection_trees selection_tree ts))
 
--- { selections }, after something and a space
+-- { selections } with a space before it
 abbrev pub selection_set_text : Prefix → ℕ → List Selection → List ℕ
 selection_set_text prefix level ts = set_text prefix level (selection_texts prefix (selection_trees selection_tree ts))

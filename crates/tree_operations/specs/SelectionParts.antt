@@ -10,7 +10,7 @@ use Rattle.tree_operations.specs.declared.selection.Field.{Field}
 use Rattle.tree_operations.specs.declared.selection.FragmentSpread.{FragmentSpread}
 use Rattle.tree_operations.specs.declared.selection.InlineFragment.{InlineFragment}
 
--- a field without what it selects
+-- a field without its selections
 abbrev pub field_head : Field → FieldHead Place
 field_head f = record {
   alias = option_map name_tree f.alias;
@@ -19,7 +19,7 @@ field_head f = record {
   directives = directives_tree f.directives;
 }
 
--- a field, a fragment spread, an inline fragment that stands at a place
+-- a field, a fragment spread, and an inline fragment, at a place
 abbrev pub field_tree : Place → Field → SelectionTree Place
 field_tree p f = FieldTree p (field_head f) (selection_trees selection_tree f.selection_set.items)
 
@@ -29,7 +29,7 @@ spread_tree p s = SpreadTree p (name_tree s.fragment_name) (directives_tree s.di
 abbrev pub inline_tree : Place → InlineFragment → SelectionTree Place
 inline_tree p f = InlineTree p (option_map name_tree f.type_condition) (directives_tree f.directives) (selection_trees selection_tree f.selection_set.items)
 
--- the same of nodes of these
+-- the same for nodes of these
 abbrev pub field_node_tree : Node Field → SelectionTree Place
 field_node_tree n = field_tree (place n) (content n)
 
@@ -40,7 +40,7 @@ abbrev pub inline_node_tree : Node InlineFragment → SelectionTree Place
 inline_node_tree n = inline_tree (place n) (content n)
 
 module _ {P : Type 0} where
-  -- where a selection stands
+  -- the place of a selection
   abbrev pub selection_place : SelectionTree P → P
   selection_place (FieldTree p h ts) = p
   selection_place (SpreadTree p n ds) = p
@@ -61,6 +61,6 @@ module _ {P : Type 0} where
   as_inline_tree (InlineTree p c ds ts) = Some (InlineTree p c ds ts)
   as_inline_tree _ = None
 
-  -- the alias of a field, else its name (section 2.7)
+  -- the response key of a field: its alias, else its name (section 2.7)
   abbrev pub response_name_of : FieldHead P → Text P
   response_name_of h = unwrap_or h.alias h.name

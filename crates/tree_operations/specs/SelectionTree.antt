@@ -8,7 +8,7 @@ use Rattle.tree_operations.specs.declared.selection.Selection.{Selection}
 use Rattle.tree_operations.specs.declared.selection.Selection.TheOpen.{Selection-F, Field-F, InlineFragment-F, Field, FragmentSpread, InlineFragment}
 use Rattle.tree_operations.specs.declared.selection.Selection.TheFolds.{fold-Selection}
 
--- a field without what it selects: alias: name(arguments) @directives
+-- a field without its selections: alias: name(arguments) @directives
 pub record FieldHead (P : Type 0) : Type 0 where
   pub alias : Option (Text P)
   pub name : Text P
@@ -49,7 +49,7 @@ selection_step (Field n) = content n (place n)
 selection_step (FragmentSpread n) = SpreadTree (place n) (name_tree (content n).fragment_name) (directives_tree (content n).directives)
 selection_step (InlineFragment n) = content n (place n)
 
--- what a selection is
+-- the tree of a selection
 abbrev pub selection_tree : Selection → SelectionTree Place
 selection_tree = fold-Selection (SelectionTree Place) AtPlace AtPlace selection_step field_step inline_step
 

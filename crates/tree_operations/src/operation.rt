@@ -18,7 +18,7 @@ pub struct VariableDefinition {
     pub directives: DirectiveList,
 }
 
-// Not derived: a derived drop is proved again in each crate that drops one.
+// Not derived: a derived drop is proved again in every crate that uses it.
 impl Drop for VariableDefinition {
     fn drop(self) {
         let VariableDefinition {
@@ -40,7 +40,7 @@ pub struct OperationDefinition {
     pub selection_set: Vec<Selection>,
 }
 
-// Not derived: a derived drop is proved again in each crate that drops one.
+// Not derived: a derived drop is proved again in every crate that uses it.
 impl Drop for OperationDefinition {
     fn drop(self) {
         let OperationDefinition {
@@ -62,7 +62,7 @@ pub struct FragmentDefinition {
     pub selection_set: Vec<Selection>,
 }
 
-// Not derived: a derived drop is proved again in each crate that drops one.
+// Not derived: a derived drop is proved again in every crate that uses it.
 impl Drop for FragmentDefinition {
     fn drop(self) {
         let FragmentDefinition {

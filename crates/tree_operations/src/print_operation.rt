@@ -230,7 +230,7 @@ fn is_bare_query(operation: &OperationDefinition) -> bool
     }
 }
 
-/// An operation. `at_start` says whether nothing stands before it. Public for the printers of the crates above.
+/// An operation. `at_start` says whether nothing comes before it. Public for the printers of the crates above.
 pub fn put_operation<S: Sink>(
     sink: &mut S,
     prefix: Option<&str>,
@@ -257,7 +257,7 @@ fn is_outermost(level: &Level) -> bool
     }
 }
 
-/// Whether no byte stands before what begins a whole text. Public for the printers of the crates above.
+/// Whether no byte comes before the first definition of a whole text. Public for the printers of the crates above.
 pub fn begins_output(prefix: Option<&str>, level: &Level) -> bool
     ensures { result ≡ begins_output (option_copied prefix.entry) (level_depth level.now) }
 {

@@ -59,7 +59,7 @@ pub struct FragmentSpread {
     pub directives: DirectiveList,
 }
 
-// Not derived: a derived drop is proved again in each crate that drops one.
+// Not derived: a derived drop is proved again in every crate that uses it.
 impl Drop for FragmentSpread {
     fn drop(self) {
         let FragmentSpread {

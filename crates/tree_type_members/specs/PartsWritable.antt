@@ -1,5 +1,5 @@
 -- Parts of type system definitions and extensions that the grammar can write (GraphQL, October 2021, appendix B):
--- what it asks of them beside their form.
+-- what it requires of them apart from their form.
 use Rattle.std.specs.Prelude.{Bool, not, ◌&&◌, ◌||◌, true, List}
 use Rattle.std.specs.List.{list_all}
 use Rattle.tree_literals.specs.in_names.Placed.{Placed}
@@ -22,7 +22,7 @@ enum_value_writable v = can_be_enum v.value.it && directives_writable true v.dir
 abbrev pub enum_values_writable : {P : Type 0} → List (Placed P (EnumValueTree P)) → Bool
 enum_values_writable vs = list_all (λ v. enum_value_writable v.it) vs
 
--- a schema definition names a root
+-- a schema definition names a root operation type, and its directives can be written
 abbrev pub schema_writable : {P : Type 0} → SchemaParts P → Bool
 schema_writable s = directives_writable true s.directives && has_some s.roots
 
@@ -35,7 +35,7 @@ enum_writable t = directives_writable true t.directives && enum_values_writable 
 abbrev pub input_object_writable : {P : Type 0} → InputObjectParts P → Bool
 input_object_writable t = directives_writable true t.directives && input_values_writable t.fields
 
--- an extension has a part beside its name
+-- an extension has at least one part other than its name
 abbrev pub schema_extension_writable : {P : Type 0} → SchemaParts P → Bool
 schema_extension_writable s = directives_writable true s.directives && (has_some s.directives || has_some s.roots)
 

@@ -1,4 +1,4 @@
--- Private: leads to `fields_text` and `enum_text`. What printers of members write on the way.
+-- Private: leads to `fields_text` and `enum_text`. Partial texts of printers of members.
 use Rattle.std.specs.Prelude.{ℕ, List, map}
 use Rattle.tree_literals.specs.in_names.Placed.{node_tree}
 use Rattle.tree_literals.specs.in_names.declared.node.Node.{Node}

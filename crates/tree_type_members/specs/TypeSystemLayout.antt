@@ -1,4 +1,4 @@
--- Type system definitions and their extensions (GraphQL, October 2021, section 3).
+-- The texts of type system definitions and their extensions (GraphQL, October 2021, section 3).
 use Rattle.std.specs.Prelude.{ℕ, List, [], ◌∷◌, map, codes}
 use Rattle.tree_literals.specs.in_names.Placed.{Text}
 use Rattle.tree_directives.specs.DirectiveTree.{Directives}
@@ -15,7 +15,7 @@ use Rattle.tree_type_members.specs.TypeSystemTree.{FieldDefinitionTree, EnumValu
 abbrev pub name_text : {P : Type 0} → Text P → List ℕ
 name_text n = n.it
 
--- names behind a keyword, with a sign between each two; nothing at all without names
+-- names after a keyword, with a sign between each two; the empty text without names
 abbrev pub names_text : {P : Type 0} → List ℕ → List ℕ → List (Text P) → List ℕ
 names_text keyword sign [] = joined []
 names_text keyword sign (n ∷ ns) = joined (keyword ∷ name_text n ∷ further_text sign (map name_text ns) ∷ [])
@@ -25,7 +25,7 @@ abbrev pub undescribed_field_text : {P : Type 0} → Prefix → FieldDefinitionT
 undescribed_field_text prefix f level =
     joined (f.name.it ∷ argument_definitions_text prefix f.arguments level ∷ codes ": " ∷ type_text f.ty ∷ directives_text f.directives ∷ [])
 
--- the same behind its description
+-- the same after its description
 abbrev pub field_definition_text : {P : Type 0} → Prefix → FieldDefinitionTree P → Leveled
 field_definition_text prefix f level = joined (description_text prefix level f.description ∷ undescribed_field_text prefix f level ∷ [])
 
@@ -42,7 +42,7 @@ abbrev pub head_text : {P : Type 0} → List ℕ → Text P → List (Text P) �
 head_text keyword name interfaces ds =
     joined (keyword ∷ name.it ∷ names_text (codes " implements ") (codes " & ") interfaces ∷ directives_text ds ∷ [])
 
--- Below, `lead` is what stands before a definition: its description, or the word `extend`.
+-- Below, `lead` is what comes before a definition: its description, or the word `extend`.
 
 abbrev pub extend : List ℕ
 extend = codes "extend "

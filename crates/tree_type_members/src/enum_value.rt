@@ -15,7 +15,7 @@ pub struct EnumValueDefinition {
     pub directives: DirectiveList,
 }
 
-// Not derived: a derived drop is proved again in each crate that drops one.
+// Not derived: a derived drop is proved again in every crate that uses it.
 impl Drop for EnumValueDefinition {
     fn drop(self) {
         let EnumValueDefinition {

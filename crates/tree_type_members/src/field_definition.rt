@@ -22,7 +22,7 @@ pub struct FieldDefinition {
     pub directives: DirectiveList,
 }
 
-// Not derived: a derived drop is proved again in each crate that drops one.
+// Not derived: a derived drop is proved again in every crate that uses it.
 impl Drop for FieldDefinition {
     fn drop(self) {
         let FieldDefinition {

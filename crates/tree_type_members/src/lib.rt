@@ -24,7 +24,7 @@ pub use tree_directives::{
     DirectiveList, InputValueDefinition, OperationType, directives_are_writable,
     input_values_are_writable, put_directive_definition, put_directives, put_keyword,
 };
-pub use tree_literals::{Name, NamedType, Node, NodeStr};
+pub use tree_literals::{FileId, Name, NamedType, Node, NodeStr, SourceSpan};
 pub use writable::{fields_are_writable, values_are_writable};
 
-// Of the crates beneath, for those above.
+// Re-exported from the crates below, for the crates above.

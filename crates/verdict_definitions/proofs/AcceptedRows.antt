@@ -10,8 +10,8 @@ use Rattle.tree_definitions.specs.in_operations.SelectionTree.{FieldHead}
 use Rattle.schema_types.specs.BuiltIn.{built_in}
 use Rattle.schema_types.specs.SchemaTree.{SchemaType, SchemaTree}
 use Rattle.schema_types.specs.declared.type_kind.TypeKind.TheVariants as kind
-use Rattle.document_meaning.specs.MeantTree.{Definition, MeantDocument, MeantOperation, MeantField, MeantSet, meant_set, meant_then, no_meant}
-use Rattle.document_meaning.specs.Unplaced.{unplaced_document}
+use Rattle.spec_document.specs.MeantTree.{Definition, MeantDocument, MeantOperation, MeantField, MeantSet, meant_set, meant_then, no_meant}
+use Rattle.spec_document.specs.Unplaced.{unplaced_document}
 use Rattle.rule_definitions.specs.Faults.{FaultAt}
 use Rattle.rule_definitions.specs.Judged.{Judged}
 use Rattle.rule_definitions.specs.Names.{argument_name, directive_name, defined_name}
@@ -30,7 +30,7 @@ use Rattle.graphql_faults.specs.in_document_rule_definitions.Defer.{DeferBreaks}
 use Rattle.graphql_faults.specs.in_document_rule_definitions.Merging.{FieldsMerge, Below, Starts, SameKey, SameShape, MayShare, SameNameAndArguments}
 use Rattle.graphql_faults.specs.in_document_rule_definitions.SameValues.{neither}
 use Rattle.graphql_faults.specs.in_document_rule_definitions.Verdict.{no_places, DocumentRules, Merging, WithinBounds}
-use Rattle.graphql_faults.specs.in_document_rule_definitions.Told.{IsValidDocument}
+use Rattle.graphql_faults.specs.in_document_rule_definitions.PlacedDocumentFaults.{IsValidDocument}
 use Rattle.graphql_faults.proofs.in_document_rule_definitions.Levels.{reached_in}
 use Rattle.graphql_faults.proofs.in_document_rule_definitions.MergingFacts.{IsReachedField, closed_within, merge_if_all_agree}
 use Rattle.graphql_faults.proofs.in_document_rule_definitions.RowWords.{of_present, not_present, not_at_index, none_repeats, none_reached, no_fragment, of_each}

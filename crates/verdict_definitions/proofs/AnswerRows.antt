@@ -10,7 +10,7 @@ use Rattle.graphql_faults.specs.in_document_rule_definitions.DocumentFaults.{OfD
 use Rattle.document_typing.specs.TypingFaults as typing
 use Rattle.rule_definitions.specs.Diagnostics.{RecursiveInputObjectDefinition, UnusedVariable, UniqueInputValue, QueryRootOperationType}
 use Rattle.rule_definitions.specs.Faults.{wrong}
-use Rattle.graphql_faults.specs.in_document_data.DocumentBreaches.{Selected, ConflictingFieldName}
+use Rattle.graphql_faults.specs.in_document_errors.DocumentBreaches.{Selected, ConflictingFieldName}
 use Rattle.graphql_faults.specs.DetailsTree.{Syntax, Nesting, of_rule, of_folding, of_typing, of_document}
 use Rattle.verdict_definitions.specs.Says.{spent}
 use Rattle.verdict_definitions.specs.Answer.{place_text, fault_line}

@@ -3,7 +3,7 @@ use Rattle.std.proofs.Common.{◌≡◌, ◌≢◌, ℕ, ◌-◌, ◌^◌, ◌<�
 use Rattle.std.specs.Fmt.{digits}
 use Rattle.graphql_names.specs.declared.span.SourceSpan.{SourceSpan}
 use Rattle.schema_built_in.specs.Table.{built_in_definitions}
-use Rattle.tree_definitions.specs.in_values.Joined.{joined}
+use Rattle.tree_definitions.specs.in_operations.Joined.{joined}
 use Rattle.graphql_faults.specs.in_grammar.Faults as read
 use Rattle.graphql_faults.specs.in_grammar.Places.{place_in}
 use Rattle.graphql_faults.specs.in_read.declared.fault.SyntaxFaultKind.TheVariants.{Unexpected, End}

@@ -10,7 +10,7 @@ use Rattle.tree_definitions.specs.in_operations.SelectionTree.{FieldHead, FieldT
 use Rattle.tree_definitions.specs.in_operations.OperationTree.{OperationTree, VariableDefinitionTree}
 use Rattle.schema_types.specs.SchemaTree.{SchemaTree}
 use Rattle.document_typing.specs.KeptDocument.{kept_document, meant_operation}
-use Rattle.document_meaning.specs.MeantTree.{Definition, MeantDocument, MeantOperation, MeantField, meant_set, no_meant}
+use Rattle.spec_document.specs.MeantTree.{Definition, MeantDocument, MeantOperation, MeantField, meant_set, no_meant}
 use Rattle.rule_definitions.specs.Diagnostics.{UnusedVariable}
 use Rattle.rule_definitions.specs.Faults.{wrong}
 use Rattle.rule_definitions.proofs.Lists.{not_in_nil}
@@ -19,9 +19,9 @@ use Rattle.graphql_faults.specs.in_document_rule_definitions.Selected.{Standing,
 use Rattle.graphql_faults.specs.in_document_rule_definitions.Reached.{first}
 use Rattle.graphql_faults.specs.in_document_rule_definitions.UsedVariables.{IsUsedIn, StandsInSelection}
 use Rattle.graphql_faults.specs.in_document_rule_definitions.Merging.{SameName, telling}
-use Rattle.graphql_faults.specs.in_document_rule_definitions.Told.{PlacedDocumentFault, DocumentFails, DocumentMergingFails}
+use Rattle.graphql_faults.specs.in_document_rule_definitions.PlacedDocumentFaults.{PlacedDocumentFault, DocumentFails, DocumentMergingFails}
 use Rattle.graphql_faults.proofs.in_document_rule_definitions.RowWords.{of_present, not_at_index, none_reached, no_fragment}
-use Rattle.graphql_faults.specs.in_document_data.DocumentBreaches.{ConflictingFieldName}
+use Rattle.graphql_faults.specs.in_document_errors.DocumentBreaches.{ConflictingFieldName}
 use Rattle.graphql_faults.specs.DetailsTree.{of_document}
 use Rattle.verdict_definitions.specs.Texts.{SourceText, Tree, ReadsText}
 use Rattle.verdict_definitions.specs.Meaning.{schema_at_hand, document_over}

@@ -8,7 +8,7 @@ use Rattle.graphql_faults.specs.in_grammar.Places.{place_in}
 use Rattle.schema_fold.specs.BuildErrors as rule
 use Rattle.schema_fold.specs.BuildErrors.{BuildFault, Fails, Breach, RepeatedIn}
 use Rattle.schema_fold.specs.Components.{components, field_key, value_key, input_key}
-use Rattle.schema_fold.specs.Listed.{Definitions, numbered, type_name, types_in}
+use Rattle.schema_fold.specs.NumberedDefinition.{Definitions, numbered, type_name, types_in}
 use Rattle.schema_fold.specs.SchemaFold.{root_key, roots_given}
 use Rattle.schema_fold.specs.in_components.Given.{Given, given_name}
 use Rattle.schema_fold.specs.in_components.Lists.{AtSomePlace, IsRepeated, firsts, has_name, repeats}

@@ -13,12 +13,12 @@ use Rattle.schema_types.specs.declared.type_kind.TypeKind.TheVariants as kind
 use Rattle.graphql_faults.specs.in_grammar.Places.{place_in}
 use Rattle.schema_fold.specs.in_directives.OperationQueries.{default_root_name}
 use Rattle.document_typing.specs.KeptDocument.{kept_document}
-use Rattle.document_meaning.specs.MeantTree.{MeantDocument, MeantOperation}
+use Rattle.spec_document.specs.MeantTree.{MeantDocument, MeantOperation}
 use Rattle.rule_definitions.specs.Diagnostics.{UnusedVariable}
 use Rattle.rule_definitions.specs.Faults.{wrong}
 use Rattle.rule_definitions.specs.Judged.{Judged, judged}
 use Rattle.rule_definitions.specs.Names.{argument_name, directive_name, defined_name}
-use Rattle.rule_definitions.specs.Told.{PlacedFault}
+use Rattle.rule_definitions.specs.PlacedFaults.{PlacedFault}
 use Rattle.rule_definitions.proofs.Lists.{not_in_nil, only}
 use Rattle.graphql_faults.specs.in_document_rule_definitions.DocumentFaults.{Broken, OfData, OfDocument, OfLimit}
 use Rattle.graphql_faults.specs.in_document_rule_definitions.Defer.{DeferBreaks}
@@ -26,7 +26,7 @@ use Rattle.graphql_faults.specs.in_document_rule_definitions.Subscriptions.{Subs
 use Rattle.graphql_faults.specs.in_document_rule_definitions.Fragments.{UndefinedFragmentAt, InvalidFragmentTargetAt, InvalidFragmentSpreadAt}
 use Rattle.graphql_faults.specs.in_document_rule_definitions.Selections.{SelectionsBreak}
 use Rattle.graphql_faults.specs.in_document_rule_definitions.Variables.{VariablesBreak}
-use Rattle.graphql_faults.specs.in_document_rule_definitions.Told.{PlacedDocumentFault, places_in}
+use Rattle.graphql_faults.specs.in_document_rule_definitions.PlacedDocumentFaults.{PlacedDocumentFault, places_in}
 use Rattle.graphql_faults.proofs.in_document_rule_definitions.RowWords.{of_present, not_present, not_at_index, at_only, none_repeats, one_repeats, none_reached, no_fragment}
 use Rattle.verdict_definitions.specs.Says.{RuleFailsBeside, DocumentRuleFailsBeside}
 use Rattle.verdict_definitions.proofs.RowMeanings.{meanings_found, same_meanings, type_found, judged_found, same_judged}

@@ -11,7 +11,7 @@ use Rattle.schema_fold.specs.in_directives.declared.directive_location.Directive
 use Rattle.schema_fold.specs.in_directives.declared.operation_type.OperationType.TheVariants as operation
 use Rattle.tree_definitions.specs.in_operations.SelectionTree.{SelectionTrees, FieldTree, SpreadTree, no_selections, selection_then}
 use Rattle.graphql_faults.specs.in_grammar.Places.{place_in}
-use Rattle.tree_definitions.specs.in_values.Joined.{joined}
+use Rattle.tree_definitions.specs.in_operations.Joined.{joined}
 use Rattle.verdict_definitions.specs.Texts.{Tree}
 use Rattle.verdict_definitions.specs.Out.{Out, OutDoc, layout_text}
 use Rattle.verdict_definitions.proofs.RowTrees.{terms}

@@ -1,7 +1,7 @@
 -- S `type Query { field: Int }`, D `{ field }`: the pair is accepted, and these are the bytes.
 use Rattle.std.proofs.Common.{[], ◌∷◌, codes, None, refl, inl}
 use Rattle.schema_built_in.specs.Table.{built_in_definitions}
-use Rattle.tree_definitions.specs.in_values.Joined.{joined}
+use Rattle.tree_definitions.specs.in_operations.Joined.{joined}
 use Rattle.graphql_faults.specs.in_grammar.Places.{place_in}
 use Rattle.verdict_definitions.specs.Judge.{AreSchemasAccepted, IsAccepted, IsCertain}
 use Rattle.verdict_definitions.specs.Answer.{Answer}

@@ -14,7 +14,7 @@ use Rattle.rule_definitions.specs.Faults.{SchemaFault, wrong}
 use Rattle.rule_definitions.specs.Judged.{judged}
 use Rattle.rule_definitions.specs.Rules.{Breaks}
 use Rattle.rule_definitions.specs.Spots.{At}
-use Rattle.rule_definitions.specs.Told.{PlacedFault}
+use Rattle.rule_definitions.specs.PlacedFaults.{PlacedFault}
 use Rattle.graphql_faults.specs.DetailsTree.{of_rule}
 use Rattle.verdict_definitions.specs.Texts.{SourceText, Tree, ReadsText}
 use Rattle.verdict_definitions.specs.Meaning.{schema_of}

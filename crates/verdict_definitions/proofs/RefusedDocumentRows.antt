@@ -9,7 +9,7 @@ use Rattle.rule_definitions.proofs.Lists.{not_in_nil, only, is_only}
 use Rattle.document_typing.specs.TypingFaults as typing
 use Rattle.document_typing.specs.TypingFaults.{TypingFails}
 use Rattle.document_typing.proofs.DocumentFailures.{document-fails}
-use Rattle.graphql_faults.specs.in_document_rule_definitions.Told.{PlacedDocumentFault}
+use Rattle.graphql_faults.specs.in_document_rule_definitions.PlacedDocumentFaults.{PlacedDocumentFault}
 use Rattle.graphql_faults.specs.DetailsTree.{of_typing, of_document}
 use Rattle.verdict_definitions.specs.Texts.{SourceText, Tree, ReadsText, IsWithin}
 use Rattle.verdict_definitions.specs.Says.{AnyFault, SaysDocument, TypingFailsOver, DocumentRuleFailsBeside}

@@ -11,7 +11,7 @@ use Rattle.rule_definitions.specs.Judged.{judged}
 use Rattle.rule_definitions.specs.Rules.{Breaks, SchemaRules}
 use Rattle.document_typing.specs.TypingFaults as typing
 use Rattle.document_typing.specs.TypingFaults.{TypingRules}
-use Rattle.graphql_faults.specs.in_document_rule_definitions.Told.{PlacedDocumentFault, DocumentFails, DocumentMergingFails, IsValidDocument}
+use Rattle.graphql_faults.specs.in_document_rule_definitions.PlacedDocumentFaults.{PlacedDocumentFault, DocumentFails, DocumentMergingFails, IsValidDocument}
 use Rattle.graphql_faults.specs.in_document_rule_definitions.Named.{FragmentsFoundByName}
 use Rattle.graphql_faults.proofs.in_document_rule_definitions.Verdicts.{valid_where_nothing_is_told}
 use Rattle.verdict_definitions.specs.Texts.{SourceText, Tree, Terms, DerivesIn, ReadsText, ReadsAll, PassesNumbers, document_number}

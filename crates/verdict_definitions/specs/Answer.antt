@@ -1,4 +1,4 @@
--- What may be answered of texts: lists of faults, and bytes.
+-- What may be answered for texts: lists of faults, and bytes.
 use Rattle.std.specs.Prelude.{◌≡◌, ◌≢◌, ℕ, ◌+◌, ◌≤◌, List, [], ◌∷◌, ◌++◌, length, flat_map, Contains, codes, None, Some, if◌then◌else◌, ◌⊎◌}
 use Rattle.std.specs.Fmt.{decimal}
 use Rattle.graphql_names.specs.Places.{is_built_in}
@@ -6,9 +6,9 @@ use Rattle.graphql_names.specs.Placed.{Place}
 use Rattle.schema_fold.specs.BuildErrors as folding
 use Rattle.schema_types.specs.SchemaTree.{SchemaTree}
 use Rattle.document_typing.specs.in_schema_building.Numbers.{HaveNumbers}
-use Rattle.rule_definitions.specs.Told.{PlacedFault}
+use Rattle.rule_definitions.specs.PlacedFaults.{PlacedFault}
 use Rattle.rule_definitions.specs.Room.{most_told}
-use Rattle.graphql_faults.specs.in_document_rule_definitions.Told.{PlacedDocumentFault}
+use Rattle.graphql_faults.specs.in_document_rule_definitions.PlacedDocumentFaults.{PlacedDocumentFault}
 use Rattle.document_typing.specs.TypingFaults as typing
 use Rattle.graphql_faults.specs.DetailsMessages.{details_message}
 use Rattle.graphql_faults.specs.DetailsTree.{of_rule, of_folding, of_typing, of_document}
@@ -20,7 +20,7 @@ use Rattle.verdict_definitions.specs.Out.{Out, OutDoc, Layout, layout_text, as_l
 
 -- ---- lists of faults
 
--- each text is read or has one fault, in order, where the first text has this number
+-- each text is read or has one fault in the list, in the order of the texts; the first text has the number `first`
 abbrev pub UnreadFaults : ℕ → ℕ → List SourceText → List AnyFault → Type 0
 UnreadFaults nesting first [] faults = faults ≡ []
 UnreadFaults nesting first (text ∷ texts) faults =
@@ -28,18 +28,18 @@ UnreadFaults nesting first (text ∷ texts) faults =
     ⊎ ((fault : AnyFault) × ((others : List AnyFault) × (
     (faults ≡ fault ∷ others) × UnreadFault nesting first text fault × UnreadFaults nesting (first + 1) texts others)))
 
--- each of these faults is so
+-- `says` holds of each of these faults
 abbrev pub AllSay : (AnyFault → Type 0) → List AnyFault → Type 0
 AllSay says faults = (fault : AnyFault) → Contains faults fault → says fault
 
--- the fault is told, or as many are told as one call tells
+-- the fault is in the list, or the list has as many faults as one call tells
 abbrev pub IsToldUnlessFull : List AnyFault → AnyFault → Type 0
 IsToldUnlessFull faults fault = Contains faults fault ⊎ (most_told ≤ length faults)
 
--- The schema texts are refused with these faults: there are some, and each is so. Those of unread texts stand alone, one for
--- each; or each text is read. Then that no number is left for an extension stands alone (`spent`); each breach of a folding rule
--- is among them where there are numbers; and where folding rules hold, each of a rule on schemas, of those on cycles some
--- (`rules`), unless as many are told as one call tells.
+-- The schema texts are refused with these faults: there is at least one, and each is true of the texts. If a text is not read, the list has one
+-- fault for each unread text and no other. If all are read and no number is left for an extension, that is the only fault (`spent`). Otherwise each
+-- breach of a folding rule is in the list; if there is none, each breach of a rule on schemas is (`rules`), except that some on cycles may be
+-- missing, unless as many are told as one call tells.
 pub record RefusesSchemas (terms : Terms) (schemas : List SourceText) (faults : List AnyFault) : Type 0 where
   pub some : faults ≢ []
   pub says : AllSay (SaysSchema terms schemas) faults
@@ -52,13 +52,13 @@ pub record RefusesSchemas (terms : Terms) (schemas : List SourceText) (faults : 
   pub spent : AreWithin terms.nesting terms.first_text schemas → (trees : List Tree) → ReadsAll terms.first_text schemas trees
       → (HaveNumbers terms.first_extension (all_definitions trees) → ⊥) → faults ≡ spent ∷ []
 
--- this is all that is said of the document: that it is unread
+-- the only fault is that the document is not read
 abbrev pub UnreadAlone : ℕ → ℕ → SourceText → List AnyFault → Type 0
 UnreadAlone nesting number document faults = (fault : AnyFault) × ((faults ≡ fault ∷ []) × UnreadFault nesting number document fault)
 
--- The document, which has this number, is refused over the schema with these faults: there are some, and each is so. That it
--- is unread stands alone; of a read one each breach of a rule of typing is among them; and where none is, each of a rule on
--- documents, of those on fragments that reach themselves and on merging some (`rules`), unless as many are told as one call tells.
+-- The document, which has this number, is refused over the schema with these faults: there is at least one, and each is true of it. If it is not
+-- read, that is the only fault. Otherwise each breach of a rule of typing is in the list; if there is none, each breach of a rule on documents is
+-- (`rules`), except that some on fragments that reach themselves and on merging may be missing, unless as many are told as one call tells.
 pub record RefusesDocument (schema : SchemaTree Place) (nesting number : ℕ) (document : SourceText) (faults : List AnyFault) : Type 0 where
   pub some : faults ≢ []
   pub says : AllSay (SaysDocument schema nesting number document) faults
@@ -77,7 +77,7 @@ Refuses terms schemas document faults =
 
 -- ---- lines
 
--- number and offset of a place; `-` without one, and in what is built in
+-- the number and offset of a place; `-` if there is no place, and for what is built in
 abbrev pub place_text : Place → List ℕ
 place_text None = codes "-"
 place_text (Some span) = if is_built_in (Some span) then codes "-" else decimal span.file_id.0 ++ codes ":" ++ decimal span.offset
@@ -113,6 +113,6 @@ pub record RefusedBytes (terms : Terms) (schemas : List SourceText) (document : 
   pub refused : Refuses terms schemas document faults
   pub is : bytes ≡ codes "refused\n" ++ flat_map fault_line faults
 
--- The bytes that may be put out for these texts.
+-- The bytes that may be output for these texts.
 abbrev pub Answer : Terms → Layout → List SourceText → SourceText → List ℕ → Type 0
 Answer terms layout schemas document bytes = AcceptedBytes terms layout schemas document bytes ⊎ RefusedBytes terms schemas document bytes

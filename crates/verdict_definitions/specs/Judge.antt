@@ -9,9 +9,9 @@ use Rattle.rule_definitions.specs.Judged.{judged}
 use Rattle.rule_definitions.specs.Faults.{SchemaFault}
 use Rattle.rule_definitions.specs.Cycles.{PassesReferenceBound}
 use Rattle.rule_definitions.specs.Rules.{SchemaRules}
-use Rattle.document_meaning.specs.Unplaced.{unplaced_document}
+use Rattle.spec_document.specs.Unplaced.{unplaced_document}
 use Rattle.document_typing.specs.TypingFaults.{TypingRules}
-use Rattle.graphql_faults.specs.in_document_rule_definitions.Told.{IsValidDocument}
+use Rattle.graphql_faults.specs.in_document_rule_definitions.PlacedDocumentFaults.{IsValidDocument}
 use Rattle.graphql_faults.specs.in_document_rule_definitions.Verdict.{WithinBounds}
 use Rattle.verdict_definitions.specs.Texts.{SourceText, Tree, Terms, ReadsText, ReadsAll, document_number, IsWithin, AreWithin}
 use Rattle.verdict_definitions.specs.Meaning.{all_definitions, schema_of, schema_at_hand, meanings_over, document_over}
@@ -42,7 +42,7 @@ pub record Judge (terms : Terms) (schemas : List SourceText) (document : SourceT
   pub schema : JudgeSchemas terms schemas
   pub over : JudgeDocument (schema_at_hand terms schema.trees) (document_number terms schemas) document
 
--- ---- what is accepted: what is judged well, and nests and counts within the bounds
+-- ---- what is accepted: what the verdict accepts, within the bounds on brackets and on numbers
 
 pub record AreSchemasAccepted (terms : Terms) (schemas : List SourceText) : Type 0 where
   pub judged : JudgeSchemas terms schemas
@@ -57,17 +57,17 @@ pub record IsAccepted (terms : Terms) (schemas : List SourceText) (document : So
   pub schema : AreSchemasAccepted terms schemas
   pub over : IsDocumentAccepted (schema_at_hand terms schema.judged.trees) terms.nesting (document_number terms schemas) document
 
--- ---- the bounds within which what is right is accepted for sure
+-- ---- certain: accepted, and passing none of the bounds ReferenceBound, SpreadBound, PathBound and ChainBound
 
--- ReferenceBound: no way along the references of directives or of input objects is too long
+-- ReferenceBound: no path along the references of directives or of input objects is too long
 abbrev pub PassesNoReferenceBound : SchemaTree Place → Type 0
 PassesNoReferenceBound schema = (fault : SchemaFault) → PassesReferenceBound (judged schema) fault → ⊥
 
--- SpreadBound, PathBound and ChainBound: no way of spreads, of selections or of fields is too long
+-- SpreadBound, PathBound and ChainBound: no path of spreads, of selections or of fields is too long
 abbrev pub PassesNoDocumentBound : SchemaTree Place → Tree → Type 0
 PassesNoDocumentBound schema tree = WithinBounds (unplaced_document (document_over schema tree))
 
--- the accepted schema texts, the accepted document, the accepted pair, pass none of these
+-- the accepted schema texts, the accepted document, the accepted pair, pass none of these bounds
 abbrev pub AreSchemasCertain : Terms → List SourceText → Type 0
 AreSchemasCertain terms schemas = (accepted : AreSchemasAccepted terms schemas) × PassesNoReferenceBound (schema_of terms accepted.judged.trees)
 

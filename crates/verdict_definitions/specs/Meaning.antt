@@ -7,7 +7,7 @@ use Rattle.schema_types.specs.Plain.{plain}
 use Rattle.schema_built_in.specs.Table.{built_in_definitions}
 use Rattle.schema_fold.specs.Fold.{fold}
 use Rattle.rule_definitions.specs.Kept.{validated}
-use Rattle.document_meaning.specs.MeantTree.{MeantDocument}
+use Rattle.spec_document.specs.MeantTree.{MeantDocument}
 use Rattle.document_typing.specs.Meanings.{Meanings, meanings}
 use Rattle.document_typing.specs.KeptDocument.{kept_document}
 use Rattle.verdict_definitions.specs.Texts.{Tree, Terms}
@@ -17,11 +17,11 @@ abbrev pub all_definitions : List Tree → Tree
 all_definitions trees = flat_map (λ t. t) trees
 
 module _ (terms : Terms) (trees : List Tree) where
-  -- the schema that they fold to, behind what is built in
+  -- the schema that they fold to, after what is built in
   abbrev pub schema_of : SchemaTree Place
   schema_of = fold built_in_definitions terms.first_extension (all_definitions trees)
 
-  -- the schema over which documents are judged: without built-in scalars to which nothing refers
+  -- the schema for documents: the one over which they are judged, without built-in scalars to which nothing refers
   abbrev pub schema_at_hand : SchemaTree Place
   schema_at_hand = validated schema_of
 

@@ -23,7 +23,7 @@ Layout = Option (List ℕ)
 abbrev pub layout_text : Layout → Tree → List ℕ
 layout_text layout tree = document_text layout 0 tree
 
--- such a text with a line feed at its end: under a prefix it has one
+-- the text with a line feed at its end: under a prefix it already has one
 abbrev pub as_lines : Layout → List ℕ → List ℕ
 as_lines None text = text ++ codes "\n"
 as_lines (Some prefix) text = text

@@ -1,4 +1,4 @@
--- What a fault says of the texts, and where it stands.
+-- What each fault says of the texts, and at which place.
 use Rattle.std.specs.Prelude.{◌≡◌, ℕ, ◌+◌, ◌⊎◌, List, [], ◌∷◌, None, Some}
 use Rattle.graphql_names.specs.declared.span.SourceSpan.{SourceSpan}
 use Rattle.graphql_names.specs.Placed.{Place}
@@ -11,10 +11,10 @@ use Rattle.schema_fold.specs.BuildErrors as folding
 use Rattle.schema_fold.specs.BuildErrors.{Fails}
 use Rattle.document_typing.specs.in_schema_building.Numbers.{HaveNumbers}
 use Rattle.rule_definitions.specs.Rules as rules
-use Rattle.rule_definitions.specs.Told.{PlacedFault, Told}
+use Rattle.rule_definitions.specs.PlacedFaults.{PlacedFault, Told}
 use Rattle.document_typing.specs.TypingFaults as typing
 use Rattle.document_typing.specs.TypingFaults.{TypingFails}
-use Rattle.document_meaning.specs.MeantTree.{MeantDocument}
+use Rattle.spec_document.specs.MeantTree.{MeantDocument}
 use Rattle.rule_definitions.specs.Judged.{Judged, judged}
 use Rattle.graphql_faults.specs.in_document_rule_definitions.Places.{Places}
 use Rattle.graphql_faults.specs.in_document_rule_definitions.DocumentFaults.{OfData, OfDocument, OfLimit}
@@ -24,7 +24,7 @@ use Rattle.graphql_faults.specs.in_document_rule_definitions.Reached.{AtOperatio
 use Rattle.graphql_faults.specs.in_document_rule_definitions.Subscriptions.{SubscriptionBreaks}
 use Rattle.graphql_faults.specs.in_document_rule_definitions.Selections.{SelectionsBreak}
 use Rattle.graphql_faults.specs.in_document_rule_definitions.Variables.{VariablesBreak}
-use Rattle.graphql_faults.specs.in_document_rule_definitions.Told.{PlacedDocumentFault, places_in, DocumentFails, DocumentMergingFails, DocumentBoundFails}
+use Rattle.graphql_faults.specs.in_document_rule_definitions.PlacedDocumentFaults.{PlacedDocumentFault, places_in, DocumentFails, DocumentMergingFails, DocumentBoundFails}
 use Rattle.graphql_faults.specs.DetailsTree.{DetailsAt, Syntax, Nesting, Spent, of_rule, of_folding, of_typing, of_document}
 use Rattle.verdict_definitions.specs.Texts.{SourceText, Tree, Terms, DerivesIn, ReadsText, ReadsAll, PassesNumbers}
 use Rattle.verdict_definitions.specs.Meaning.{all_definitions, schema_of, meanings_over, document_over}
@@ -43,7 +43,7 @@ pub record IsPlaceIn (number offset length : ℕ) (place : Place) : Type 0 where
   pub at : span.offset ≡ offset
   pub long : span.length ≡ length
 
--- the fault tells of this one of the reader: that the syntax is wrong at an offset, or one bracket too many at it
+-- the fault tells this fault of the reader: wrong syntax at an offset, or one bracket too many there
 abbrev pub TellsReadFault : ℕ → read.Fault → AnyFault → Type 0
 TellsReadFault number read.Memory fault = ⊥
 TellsReadFault number (read.NoToken offset) fault = (fault.details ≡ Syntax NoToken) × IsPlaceIn number offset 0 fault.place
@@ -51,13 +51,13 @@ TellsReadFault number (read.Unexpected offset) fault = (fault.details ≡ Syntax
 TellsReadFault number (read.End offset) fault = (fault.details ≡ Syntax End) × IsPlaceIn number offset 0 fault.place
 TellsReadFault number (read.Nesting offset) fault = (fault.details ≡ Nesting) × IsPlaceIn number offset 1 fault.place
 
--- The fault tells of one that is due of the text with this number.
+-- The fault tells a fault of the reader that is due for the text with this number.
 pub record IsFaultOfText (nesting number : ℕ) (text : SourceText) (fault : AnyFault) : Type 0 where
   pub read : read.Fault
   pub due : IsDue (DerivesIn number) nesting text read
   pub tells : TellsReadFault number read fault
 
--- that numbers are spent
+-- the fault that no number is left
 abbrev pub spent : AnyFault
 spent = record { place = None; details = Spent }
 
@@ -65,37 +65,37 @@ spent = record { place = None; details = Spent }
 abbrev pub UnreadFault : ℕ → ℕ → SourceText → AnyFault → Type 0
 UnreadFault nesting number text fault = IsFaultOfText nesting number text fault ⊎ ((fault ≡ spent) × PassesNumbers number)
 
--- one of the texts is not read, and this fault says why, where the first has this number
+-- one of the texts is not read, and this fault says why; the first text has the number `first`
 abbrev pub UnreadFaultFrom : ℕ → ℕ → List SourceText → AnyFault → Type 0
 UnreadFaultFrom nesting first [] fault = ⊥
 UnreadFaultFrom nesting first (text ∷ texts) fault = UnreadFault nesting first text fault ⊎ UnreadFaultFrom nesting (first + 1) texts fault
 
--- ---- a schema of which a rule is broken
+-- ---- a schema that breaks a rule
 
 module _ (terms : Terms) (trees : List Tree) where
-  -- a folding rule is broken so
+  -- the fault is a breach of a folding rule
   abbrev pub FoldingFails : folding.BuildFault → Type 0
   FoldingFails fault = Fails built_in_definitions terms.first_extension (all_definitions trees) fault
 
-  -- a rule on schemas is broken so, or the bound on references is passed
+  -- the fault is a breach of a rule on schemas, or says that the bound on references is passed
   abbrev pub SchemaRuleFails : PlacedFault → Type 0
   SchemaRuleFails fault = rules.RulesFail (schema_of terms trees) fault ⊎ rules.BoundFails (schema_of terms trees) fault
 
-  -- a rule on schemas is broken so, but those on definitions that lead back to themselves
+  -- the fault is a breach of a rule on schemas other than those on cycles of definitions
   abbrev pub SchemaRuleFailsBesideCycles : PlacedFault → Type 0
   SchemaRuleFailsBesideCycles fault =
       Told (schema_of terms trees) (λ s f. rules.ReferencesBreak s f ⊎ (rules.EmptyBreaks s f ⊎ (rules.InterfacesBreak s f ⊎ rules.SchemaUsesBreak s f))) fault
 
-  -- a fault of the schema: no number is left for an extension, or a rule is broken so
+  -- a fault of the schema: no number is left for an extension, a folding rule is broken, or `SchemaRuleFails`
   abbrev pub SchemaFails : AnyFault → Type 0
   SchemaFails fault =
       ((fault ≡ spent) × (HaveNumbers terms.first_extension (all_definitions trees) → ⊥))
       ⊎ (((f : folding.BuildFault) × ((fault ≡ of_folding f) × FoldingFails f))
       ⊎ ((f : PlacedFault) × ((fault ≡ of_rule f) × SchemaRuleFails f)))
 
--- ---- a document of which a rule is broken
+-- ---- a document that breaks a rule
 
--- a rule on documents is broken so, but those on fragments that reach themselves and on merging
+-- the fault is a breach of a rule on documents other than those on fragments that reach themselves and on merging
 abbrev pub RuleFailsBeside : Places Place → Judged → MeantDocument Place → PlacedDocumentFault → Type 0
 RuleFailsBeside places s d (OfData fault) =
     AtOperation d (λ o. VariablesBreak places s d o fault ⊎ (SelectionsBreak places s d o fault
@@ -105,17 +105,17 @@ RuleFailsBeside places s d (OfDocument fault) = AtOperation d (λ o. Subscriptio
 RuleFailsBeside places s d (OfLimit place) = ⊥
 
 module _ (schema : SchemaTree Place) (tree : Tree) where
-  -- a rule of typing is broken so
+  -- the fault is a breach of a rule of typing
   abbrev pub TypingFailsOver : typing.TypingFault Place → Type 0
   TypingFailsOver fault = TypingFails (meanings_over schema) tree fault
 
-  -- a rule on documents or on merging is broken so, or a bound is passed
+  -- the fault is a breach of a rule on documents or on merging, or says that a bound is passed
   abbrev pub DocumentRuleFails : PlacedDocumentFault → Type 0
   DocumentRuleFails fault =
       DocumentFails schema (document_over schema tree) fault
       ⊎ (DocumentMergingFails schema (document_over schema tree) fault ⊎ DocumentBoundFails (document_over schema tree) fault)
 
-  -- a rule on documents is broken so, but those of which faults are told in part
+  -- the fault is a breach of a rule on documents, except those rules of which only some breaches may be told
   abbrev pub DocumentRuleFailsBeside : PlacedDocumentFault → Type 0
   DocumentRuleFailsBeside fault = RuleFailsBeside (places_in schema) (judged schema) (document_over schema tree) fault
 
@@ -127,13 +127,13 @@ module _ (schema : SchemaTree Place) (tree : Tree) where
 
 -- ---- what a fault says
 
--- Some fault of the schema texts is so: of a text that is not read, or of the schema.
+-- The fault is true of the schema texts: of a text that is not read, or of the schema that they fold to.
 abbrev pub SaysSchema : Terms → List SourceText → AnyFault → Type 0
 SaysSchema terms schemas fault =
     UnreadFaultFrom terms.nesting terms.first_text schemas fault
     ⊎ ((trees : List Tree) × (ReadsAll terms.first_text schemas trees × SchemaFails terms trees fault))
 
--- Some fault of the document, which has this number, is so: that it is not read, or what is wrong with it over the schema.
+-- The fault is true of the document, which has this number: it is not read, or something is wrong with it over the schema.
 abbrev pub SaysDocument : SchemaTree Place → ℕ → ℕ → SourceText → AnyFault → Type 0
 SaysDocument schema nesting number document fault =
     UnreadFault nesting number document fault

@@ -9,7 +9,7 @@ use Rattle.schema_types.specs.TypeParts.{TypeDefinition, type_here}
 use Rattle.schema_types.specs.Out.{written_type}
 use Rattle.schema_types.specs.declared.type_kind.TypeKind.{TypeKind}
 use Rattle.schema_types.specs.declared.type_kind.TypeKind.TheVariants as kind
-use Rattle.schema_fold.specs.Listed.{Definitions, Listed, numbered, type_name, types_in}
+use Rattle.schema_fold.specs.NumberedDefinition.{Definitions, NumberedDefinition, numbered, type_name, types_in}
 use Rattle.schema_fold.specs.Components.{components, parts_of, field_key, value_key, input_key}
 use Rattle.schema_fold.specs.Fold.{folded_type, folded_types}
 use Rattle.schema_fold.specs.Collected.{collected_from}
@@ -79,7 +79,7 @@ module _ (built_in : Definitions) (first : ℕ) (texts : Definitions) (rules : F
   abbrev defined : List (TypeDefinition Place)
   defined = firsts type_name (types_in ds)
 
-  abbrev list : List Listed
+  abbrev list : List NumberedDefinition
   list = numbered first ds
 
   by_kind : (k : TypeKind) (t : TypeDefinition Place) → t.parts.kind ≡ k → Contains defined t → IsOfKind k (kept_from (collected_from (parts_of list t))) → HasNoRepeats list t

@@ -14,7 +14,7 @@ use Rattle.schema_components.specs.Lists.{firsts, has_name, is_among, IsRepeated
 use Rattle.schema_components.proofs.Places.{Contains-cons, not_in_nil}
 use Rattle.schema_types.specs.SchemaTree.{same_kind}
 use Rattle.schema_types.specs.TypeParts.{TypeDefinition, type_here}
-use Rattle.schema_fold.specs.Listed.{Definitions, numbered, type_name, types_in, directive_name, directives_in}
+use Rattle.schema_fold.specs.NumberedDefinition.{Definitions, numbered, type_name, types_in, directive_name, directives_in}
 use Rattle.schema_fold.specs.SchemaFold.{schema_here, roots_given, root_key}
 use Rattle.schema_fold.specs.BuildErrors as rule
 use Rattle.schema_fold.specs.BuildErrors.{FoldingRules}

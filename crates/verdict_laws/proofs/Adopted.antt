@@ -11,7 +11,7 @@ use Rattle.schema_fold.specs.in_definitions.DefinitionTree.{DefinitionTree, unpl
 use Rattle.schema_fold.specs.in_definitions.Queries.{is_executable}
 use Rattle.schema_fold.specs.in_components.Lists.{firsts}
 use Rattle.schema_fold.specs.in_schema_types.TypeParts.{TypeParts, TypeDefinition, type_here, type_extension_here, bare, definition_by}
-use Rattle.schema_fold.specs.Listed.{Definitions, type_name, type_named}
+use Rattle.schema_fold.specs.NumberedDefinition.{Definitions, type_name, type_named}
 use Rattle.schema_fold.specs.Adoption.{is_redefinition, without_redefinitions, parts_name, orphans, empty_type, with_types, empty_schema, has_orphan_schema, with_schema, settled}
 use Rattle.verdict_laws.specs.RearrangedLists.{defines_type, extends_type, defines_directive, defines_schema, is_schema_extension, AgreeOn, IsRearranged}
 use Rattle.verdict_laws.specs.Adopting.{SettledIsRearranged, CutSettlesAlike}

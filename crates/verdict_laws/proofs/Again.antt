@@ -20,7 +20,7 @@ use Rattle.schema_types.specs.SchemaTree.{same_kind}
 use Rattle.schema_types.specs.TypeParts.{TypeParts, TypeDefinition, type_here, type_extension_here, definition_by, extension_by}
 use Rattle.schema_types.specs.declared.type_kind.TypeKind.{TypeKind}
 use Rattle.schema_types.specs.declared.type_kind.TypeKind.TheVariants.{Scalar, Object, Interface, Union, Enum, InputObject}
-use Rattle.schema_fold.specs.Listed.{Definitions, type_name, types_in}
+use Rattle.schema_fold.specs.NumberedDefinition.{Definitions, type_name, types_in}
 use Rattle.schema_fold.specs.Components.{go_together}
 use Rattle.schema_fold.specs.Made.{IsDefinition}
 use Rattle.verdict_laws.specs.Arranged.{arranged}

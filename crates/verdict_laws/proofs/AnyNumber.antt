@@ -12,11 +12,11 @@ use Rattle.tree_operations.specs.OperationLayout.{is_none}
 use Rattle.tree_definitions.specs.DefinitionTree as tree
 use Rattle.tree_definitions.specs.DefinitionTree.{DefinitionTree, unplaced_definition}
 use Rattle.tree_definitions.specs.DocumentLayout.{document_text}
-use Rattle.read_again.proofs.Unplaced.{document_same}
+use Rattle.round_trip.proofs.Unplaced.{document_same}
 use Rattle.schema_types.specs.SchemaTree.{SchemaTree}
 use Rattle.schema_types.specs.Plain.{PlainSchema, plain}
 use Rattle.rule_definitions.specs.Laws.{AreEqual}
-use Rattle.document_meaning.specs.Unplaced.{unplaced_document}
+use Rattle.spec_document.specs.Unplaced.{unplaced_document}
 use Rattle.document_typing.specs.Meanings.{meanings}
 use Rattle.document_typing.specs.KeptDocument.{kept_document}
 use Rattle.document_typing.specs.TypingFaults.{TypingRules}

@@ -12,10 +12,10 @@ use Rattle.tree_definitions.specs.DefinitionTree.{DefinitionTree}
 use Rattle.schema_components.specs.Lists.{each_place_after}
 use Rattle.schema_components.specs.Given.{Given, ExtensionTree}
 use Rattle.schema_types.specs.TypeParts.{TypeParts, TypeDefinition, type_here, type_extension_here}
-use Rattle.schema_fold.specs.Listed.{Definitions, Listed, listed_after, numbered, types_in}
+use Rattle.schema_fold.specs.NumberedDefinition.{Definitions, NumberedDefinition, listed_after, numbered, types_in}
 use Rattle.schema_fold.specs.Components.{all_given, go_together, extension_here, components}
 use Rattle.schema_fold.specs.SchemaFold.{Root, SchemaGiver, schema_here, schema_extension_here, implicit_roots, schema_is_defined, schema_base, extends_schema, roots_given}
-use Rattle.read_again.specs.TreeDepth.{deepest, bracketed, field_definition_depth, definition_depth}
+use Rattle.round_trip.specs.TreeDepth.{deepest, bracketed, field_definition_depth, definition_depth}
 use Rattle.verdict_laws.proofs.Order.{Each}
 
 -- ---- what definitions give without a bracket: no roots and no fields
@@ -84,10 +84,10 @@ table_each (d ∷ ds) a b c = (
 
 -- ---- what extensions give among numbered definitions
 
-abbrev numbered_after : ℕ → Definitions → Definitions → List Listed
+abbrev numbered_after : ℕ → Definitions → Definitions → List NumberedDefinition
 numbered_after first before ds = each_place_after (λ before d. listed_after first before d ∷ []) before ds
 
-module _ {Y Z : Type 0} (F : Z → List Y) (G : Listed → List Z) (P : DefinitionTree Place → Type 0) (none : (d : DefinitionTree Place) → P d → (e : Option (ExtensionTree Place)) → flat_map F (G (record { definition = d; extension = e })) ≡ []) where
+module _ {Y Z : Type 0} (F : Z → List Y) (G : NumberedDefinition → List Z) (P : DefinitionTree Place → Type 0) (none : (d : DefinitionTree Place) → P d → (e : Option (ExtensionTree Place)) → flat_map F (G (record { definition = d; extension = e })) ≡ []) where
   none_after : (first : ℕ) (before ds : Definitions) → Each P ds → flat_map F (flat_map G (numbered_after first before ds)) ≡ []
   none_after first before [] h = refl
   none_after first before (d ∷ ds) h =

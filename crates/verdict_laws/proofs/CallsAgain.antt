@@ -2,8 +2,8 @@
 use Rattle.std.proofs.Common.{◌≡◌, ℕ, zero, suc, List, [], ◌∷◌, Result, Ok, Err, inl, refl, sym, ap, subst, ◌∙◌}
 use Rattle.std.specs.Prelude.{IfOk, IfErr}
 use Rattle.graphql_names.specs.Placed.{Place}
-use Rattle.document_meaning.specs.Unplaced.{unplaced_document}
-use Rattle.document_meaning.specs.MeantTree.{MeantDocument}
+use Rattle.spec_document.specs.Unplaced.{unplaced_document}
+use Rattle.spec_document.specs.MeantTree.{MeantDocument}
 use Rattle.schema_types.specs.SchemaTree.{SchemaTree}
 use Rattle.rule_definitions.specs.Judged.{Judged}
 use Rattle.rule_definitions.specs.Faults.{SchemaFault}

@@ -1,6 +1,6 @@
 -- Checked schemas, and documents, of which one text is written are equal.
 use Rattle.std.proofs.Common.{sym, ap, subst, ◌∙◌}
-use Rattle.document_meaning.specs.Unplaced.{unplaced_document}
+use Rattle.spec_document.specs.Unplaced.{unplaced_document}
 use Rattle.rule_definitions.specs.Laws.{AreEqual}
 use Rattle.verdict_definitions.specs.Meaning.{schema_at_hand}
 use Rattle.verdict_definitions.specs.Out.{layout_text}

@@ -10,7 +10,7 @@ use Rattle.schema_fold.specs.in_directives.declared.operation_type.OperationType
 use Rattle.schema_fold.specs.in_directives.declared.operation_type.OperationType.TheVariants as operation
 use Rattle.schema_fold.specs.in_type_members.TypeSystemTree.{FieldDefinitionTree, EnumValueTree, RootOperationTree, SchemaParts}
 use Rattle.schema_fold.specs.in_definitions.DefinitionTree.{DefinitionTree, Schema, ExtendSchema}
-use Rattle.schema_fold.specs.in_schema_types.in_values.OperationQueries.{operation_keyword, default_root_name}
+use Rattle.schema_fold.specs.in_schema_types.in_operations.OperationQueries.{operation_keyword, default_root_name}
 use Rattle.schema_fold.specs.in_components.Lists.{each_place_after, firsts, has_name}
 use Rattle.schema_fold.specs.in_components.Names.{Entries}
 use Rattle.schema_fold.specs.in_components.Given.{Given, ExtensionTree, given_name}

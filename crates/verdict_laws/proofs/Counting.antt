@@ -19,7 +19,7 @@ use Rattle.schema_types.specs.declared.type_kind.TypeKind.{TypeKind}
 use Rattle.schema_types.specs.declared.type_kind.TypeKind.TheVariants as kind
 use Rattle.schema_types.specs.Out.{is_empty, is_object_named, written_directive}
 use Rattle.schema_built_in.specs.Table.{built_in_definitions}
-use Rattle.schema_fold.specs.Listed.{Definitions, type_name, types_in, directive_name, directives_in}
+use Rattle.schema_fold.specs.NumberedDefinition.{Definitions, type_name, types_in, directive_name, directives_in}
 use Rattle.schema_fold.specs.Components.{go_together}
 use Rattle.schema_fold.specs.SchemaFold.{schema_extension_here, schema_base}
 use Rattle.schema_fold.specs.Fold.{chosen_directive, folded_types}

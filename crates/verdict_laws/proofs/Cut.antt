@@ -16,7 +16,7 @@ use Rattle.schema_fold.specs.in_schema_types.SchemaTree.{SchemaType, same_kind}
 use Rattle.schema_fold.specs.in_schema_types.TypeParts.{TypeParts, TypeDefinition, type_here, type_extension_here}
 use Rattle.schema_fold.specs.in_schema_types.Plain.{plain_directive_definition}
 use Rattle.schema_fold.specs.in_schema_types.Out.{written_directive, written_type}
-use Rattle.schema_fold.specs.Listed.{Definitions, Listed, listed_after, numbered, type_name, types_in, directive_here, directive_name, directives_in}
+use Rattle.schema_fold.specs.NumberedDefinition.{Definitions, NumberedDefinition, listed_after, numbered, type_name, types_in, directive_here, directive_name, directives_in}
 use Rattle.schema_fold.specs.Components.{go_together, extension_here, parts_of}
 use Rattle.schema_fold.specs.Fold.{folded_type, folded_types, folded_directives}
 use Rattle.verdict_laws.specs.Table.{AreOwn}
@@ -37,7 +37,7 @@ use Rattle.verdict_laws.proofs.ListsAlike.{schema_alike, own_marked, marked_behi
 abbrev Numbered : Type 0
 Numbered = DefinitionTree (Unit {0}) × Option (ExtensionTree (Unit {0}))
 
-abbrev unplaced_listed : Listed → Numbered
+abbrev unplaced_listed : NumberedDefinition → Numbered
 unplaced_listed l = (unplaced_definition l.definition, option_map forget.extension l.extension)
 
 extension_unplaced : (d : DefinitionTree Place) → is_extension (unplaced_definition d) ≡ is_extension d
@@ -78,7 +78,7 @@ module _ (first : ℕ) where
 abbrev unplaced_here : TypeParts (Unit {0}) → Numbered → List (Given (Unit {0}) (TypeParts (Unit {0})))
 unplaced_here p l = option_map_or (λ e. if bytes_eq p.name.it e.name.it && same_kind p.kind e.kind then record { extension = l.1; it = e } ∷ [] else []) (type_extension_here l.0) []
 
-one_unplaced : (p : TypeParts Place) (l : Listed) → map (changed_given forget unplaced_parts) (extension_here p l) ≡ unplaced_here (unplaced_parts p) (unplaced_listed l)
+one_unplaced : (p : TypeParts Place) (l : NumberedDefinition) → map (changed_given forget unplaced_parts) (extension_here p l) ≡ unplaced_here (unplaced_parts p) (unplaced_listed l)
 one_unplaced p l =
     by (type_extension_here l.definition)
     ∙ ap (λ o. option_map_or (λ e. if bytes_eq p.name.it e.name.it && same_kind p.kind e.kind then record { extension = option_map forget.extension l.extension; it = e } ∷ [] else []) o []) (sym (type_extension_unplaced l.definition))
@@ -92,7 +92,7 @@ one_unplaced p l =
     by None = refl
     by (Some e) = by_test e (go_together p e)
 
-all_unplaced : (p : TypeParts Place) (ls : List Listed) → map (changed_given forget unplaced_parts) (flat_map (extension_here p) ls) ≡ flat_map (unplaced_here (unplaced_parts p)) (map unplaced_listed ls)
+all_unplaced : (p : TypeParts Place) (ls : List NumberedDefinition) → map (changed_given forget unplaced_parts) (flat_map (extension_here p) ls) ≡ flat_map (unplaced_here (unplaced_parts p)) (map unplaced_listed ls)
 all_unplaced p [] = refl
 all_unplaced p (l ∷ ls) = map-append (changed_given forget unplaced_parts) (extension_here p l) (flat_map (extension_here p) ls) ∙ (λ i. one_unplaced p l i ++ all_unplaced p ls i)
 

@@ -15,7 +15,7 @@ use Rattle.schema_components.specs.Lists.{firsts}
 use Rattle.schema_types.specs.SchemaTree.{same_kind}
 use Rattle.schema_types.specs.TypeParts.{TypeParts, TypeDefinition, type_here, type_extension_here, extension_by}
 use Rattle.schema_types.specs.Out.{is_empty, is_object_named, written_directive}
-use Rattle.schema_fold.specs.Listed.{Definitions, type_name, types_in, directive_name, directives_in}
+use Rattle.schema_fold.specs.NumberedDefinition.{Definitions, type_name, types_in, directive_name, directives_in}
 use Rattle.schema_fold.specs.Components.{go_together}
 use Rattle.schema_fold.specs.SchemaFold.{Root, SchemaGiver, schema_here, schema_extension_here, schema_base, implicit_roots}
 use Rattle.schema_fold.specs.Fold.{chosen_directive, folded_types}
@@ -25,7 +25,7 @@ use Rattle.verdict_laws.specs.Whole.{Extension, classes, extension_at, extension
 use Rattle.verdict_laws.specs.WholeSchema.{whole_parts, SchemaExtension, schema_classes, schema_extensions_in, whole_schema_extension, left_out}
 use Rattle.verdict_laws.specs.Table.{IsTable, AreOwn}
 use Rattle.verdict_laws.specs.Twice.{WrittenOf}
-use Rattle.read_again.specs.TreeDepth.{deepest, bracketed, directives_depth, directive_definition_depth, schema_depth, definition_depth, document_depth}
+use Rattle.round_trip.specs.TreeDepth.{deepest, bracketed, directives_depth, directive_definition_depth, schema_depth, definition_depth, document_depth}
 use Rattle.verdict_laws.proofs.Order.{Each, Each-append, Each-arranged}
 use Rattle.verdict_laws.proofs.Accepted.{types_whole}
 use Rattle.verdict_laws.proofs.Again.{kinds_same}

@@ -14,7 +14,7 @@ use Rattle.tree_definitions.specs.DefinitionTree.{DirectiveDefinition}
 use Rattle.schema_components.specs.Lists.{firsts, has_name, is_among}
 use Rattle.schema_components.proofs.Firsts.{has_name-push, has_name-firsts}
 use Rattle.schema_types.specs.Out.{written_directive}
-use Rattle.schema_fold.specs.Listed.{Definitions, directive_here, directive_name, directives_in}
+use Rattle.schema_fold.specs.NumberedDefinition.{Definitions, directive_here, directive_name, directives_in}
 use Rattle.schema_fold.specs.Fold.{chosen_directive, folded_directives}
 use Rattle.schema_fold.specs.BuildErrors.{FoldingRules, directive_definition_collision}
 use Rattle.verdict_laws.specs.Table.{IsTable, AreOwn}

@@ -3,12 +3,12 @@ use Rattle.std.proofs.Common.{◌≡◌, ℕ, ◌≤◌, Bool, true, false, [], 
 use Rattle.std.specs.List.{filter, list_all}
 use Rattle.graphql_names.specs.Placed.{Place}
 use Rattle.tree_definitions.specs.DefinitionTree.{DefinitionTree, unplaced_document}
-use Rattle.read_again.specs.Definitions.{definition_well_formed}
-use Rattle.read_again.specs.TreeDepth.{document_depth}
+use Rattle.round_trip.specs.Definitions.{definition_well_formed}
+use Rattle.round_trip.specs.TreeDepth.{document_depth}
 use Rattle.schema_types.specs.SchemaTree.{SchemaTree}
 use Rattle.schema_types.specs.Plain.{PlainSchema}
 use Rattle.rule_definitions.specs.Laws.{AreEqual}
-use Rattle.document_meaning.specs.Unplaced as meant
+use Rattle.spec_document.specs.Unplaced as meant
 use Rattle.document_typing.specs.Meanings.{meanings}
 use Rattle.document_typing.specs.KeptDocument.{kept_document}
 use Rattle.document_typing.specs.TypingFaults.{TypingRules}

@@ -10,7 +10,7 @@ use Rattle.schema_fold.specs.in_components.Lists.{firsts}
 use Rattle.schema_fold.specs.in_schema_types.TypeParts.{TypeParts, TypeDefinition, type_here, type_extension_here, bare, definition_by}
 use Rattle.schema_fold.specs.in_schema_types.declared.type_kind.TypeKind.{TypeKind}
 use Rattle.schema_fold.specs.in_schema_types.declared.type_kind.TypeKind.TheVariants as kind
-use Rattle.schema_fold.specs.Listed.{Definitions, directive_here}
+use Rattle.schema_fold.specs.NumberedDefinition.{Definitions, directive_here}
 use Rattle.schema_fold.specs.Adoption.{is_redefinition, without_redefinitions, parts_name, orphans, empty_type, with_types, empty_schema, has_orphan_schema, settled}
 use Rattle.rule_definitions.proofs.Lists.{not_in_nil, Contains-cons, Contains-first, only}
 use Rattle.verdict_laws.specs.Elsewhere.{ArePartsElsewhere, IsElsewhere, AreAllElsewhere}

@@ -6,14 +6,14 @@ use Rattle.std.proofs.lemmas.Bool.{and_parts}
 use Rattle.graphql_names.specs.Placed.{Place}
 use Rattle.tree_definitions.specs.DefinitionTree.{DefinitionTree}
 use Rattle.tree_definitions.specs.Writable.{has_some, definition_writable, document_writable}
-use Rattle.read_again.specs.Definitions.{definition_well_formed}
-use Rattle.read_again.proofs.EqualTexts.{equal_documents}
+use Rattle.round_trip.specs.Definitions.{definition_well_formed}
+use Rattle.round_trip.proofs.EqualTexts.{equal_documents}
 use Rattle.schema_types.specs.SchemaTree.{SchemaTree}
 use Rattle.schema_built_in.specs.Table.{built_in_definitions}
 use Rattle.schema_fold.specs.Fold.{fold}
 use Rattle.rule_schema_laws.proofs.Distinct.{folds_distinct}
 use Rattle.rule_definitions.specs.Laws.{AreEqual}
-use Rattle.document_meaning.specs.Unplaced as meant
+use Rattle.spec_document.specs.Unplaced as meant
 use Rattle.document_typing.specs.Meanings.{meanings}
 use Rattle.document_typing.specs.KeptDocument.{kept_document}
 use Rattle.verdict_laws.proofs.RealTable.{real_table}

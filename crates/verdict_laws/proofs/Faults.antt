@@ -9,7 +9,7 @@ use Rattle.std.proofs.lemmas.Simd.{map-map}
 use Rattle.graphql_names.specs.Placed.{Place, Placed, Text, unplaced_text, unplaced_node}
 use Rattle.schema_fold.specs.in_directives.DirectiveTree.{DirectiveDefinitionTree, InputValueTree, unplaced_input_value}
 use Rattle.schema_fold.specs.in_type_members.TypeSystemTree.{FieldDefinitionTree, EnumValueTree, RootOperationTree, unplaced_root, unplaced_field_definition, unplaced_enum_value}
-use Rattle.schema_fold.specs.in_schema_types.in_values.OperationQueries.{operation_keyword}
+use Rattle.schema_fold.specs.in_schema_types.in_operations.OperationQueries.{operation_keyword}
 use Rattle.schema_fold.specs.in_definitions.DefinitionTree.{DefinitionTree, unplaced_definition, unplaced_document}
 use Rattle.schema_fold.specs.in_definitions.Queries.{is_executable}
 use Rattle.schema_fold.specs.in_components.Lists.{StandsAfter, firsts, has_name}
@@ -19,7 +19,7 @@ use Rattle.schema_fold.specs.in_schema_types.TypeParts.{TypeParts, TypeDefinitio
 use Rattle.schema_fold.specs.in_schema_types.declared.type_kind.TypeKind.{TypeKind}
 use Rattle.schema_fold.specs.in_schema_types.declared.type_kind.TypeKind.TheVariants as kind
 use Rattle.schema_fold.specs.in_schema_types.Plain.{plain_directive_definition}
-use Rattle.schema_fold.specs.Listed.{Definitions, numbered, type_name, types_in, type_named, directive_here, directive_name, directives_in}
+use Rattle.schema_fold.specs.NumberedDefinition.{Definitions, numbered, type_name, types_in, type_named, directive_here, directive_name, directives_in}
 use Rattle.schema_fold.specs.Components.{components, field_key, value_key, input_key}
 use Rattle.schema_fold.specs.SchemaFold.{Root, schema_definition_in, schema_is_defined, roots_given, root_key}
 use Rattle.schema_fold.specs.BuildErrors as rule

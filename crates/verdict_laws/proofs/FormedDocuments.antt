@@ -14,7 +14,7 @@ use Rattle.read_grammar.specs.TypeSystemGrammar as y
 use Rattle.read_grammar.specs.Grammar as g
 use Rattle.read_grammar.specs.Grammar.{described, type_system_of, extended, extension_of, has_part, Derives}
 use Rattle.read_operations.specs.Meanings.{in_file}
-use Rattle.read_again.specs.Definitions.{directive_definition_well_formed, definition_well_formed}
+use Rattle.round_trip.specs.Definitions.{directive_definition_well_formed, definition_well_formed}
 use Rattle.verdict_definitions.specs.Texts.{SourceText as Bytes, Tree, ReadsText, ReadsAll}
 use Rattle.verdict_definitions.specs.Meaning.{all_definitions}
 use Rattle.verdict_laws.proofs.Sound.{all_append}

@@ -11,7 +11,7 @@ use Rattle.read_grammar.specs.Rules.{Rule}
 use Rattle.read_grammar.specs.ValueGrammar.{constant, with_variables}
 use Rattle.read_grammar.specs.OperationGrammar as g
 use Rattle.read_grammar.specs.OperationGrammar.{selections_of, field_of, spread_of, inline_of, variable_definition_of, short_of, operation_of, fragment_of}
-use Rattle.read_again.specs.WellFormed.{name_well_formed, type_well_formed, default_well_formed, arguments_well_formed, directives_well_formed, selection_well_formed, selections_well_formed, variables_well_formed, operation_well_formed, fragment_well_formed}
+use Rattle.round_trip.specs.WellFormed.{name_well_formed, type_well_formed, default_well_formed, arguments_well_formed, directives_well_formed, selection_well_formed, selections_well_formed, variables_well_formed, operation_well_formed, fragment_well_formed}
 use Rattle.verdict_laws.proofs.Taken.{Makes, token, mapped, mapped_any, mark, seq, choice, never, maybe, or_none, some_all, enclosed, located, three, four, five}
 use Rattle.verdict_laws.proofs.FormedValues.{named, word_says, name_makes, variable_makes, maybe_arguments, maybe_directives, default_value_makes, type_makes}
 

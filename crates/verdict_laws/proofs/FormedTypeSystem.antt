@@ -11,8 +11,8 @@ use Rattle.read_grammar.specs.ValueGrammar.{constant}
 use Rattle.read_grammar.specs.ValueGrammar as v
 use Rattle.read_grammar.specs.TypeSystemGrammar as g
 use Rattle.read_grammar.specs.TypeSystemGrammar.{KindTree, SchemaKind, ScalarKind, ObjectKind, InterfaceKind, UnionKind, EnumKind, InputObjectKind, root_of, schema_of, schema_extension_of, input_value_of, field_definition_of, enum_value_definition_of, scalar_of, fields_of, union_of, enum_of, input_object_of, directive_definition_of}
-use Rattle.read_again.specs.WellFormed.{type_well_formed, default_well_formed, directives_well_formed, input_values_well_formed, field_definition_well_formed, enum_value_well_formed, root_well_formed, names_well_formed, scalar_well_formed, fields_well_formed, union_well_formed, enum_well_formed, input_object_well_formed, schema_well_formed}
-use Rattle.read_again.specs.Definitions.{directive_definition_well_formed}
+use Rattle.round_trip.specs.WellFormed.{type_well_formed, default_well_formed, directives_well_formed, input_values_well_formed, field_definition_well_formed, enum_value_well_formed, root_well_formed, names_well_formed, scalar_well_formed, fields_well_formed, union_well_formed, enum_well_formed, input_object_well_formed, schema_well_formed}
+use Rattle.round_trip.specs.Definitions.{directive_definition_well_formed}
 use Rattle.verdict_laws.proofs.Taken as makes
 use Rattle.verdict_laws.proofs.Taken.{Makes, any_token, mapped, mapped_any, mark, seq, choice, never, weaker, anyway, maybe, maybe_any, or_none, or_none_unless, some_all, enclosed, located, three, four}
 use Rattle.verdict_laws.proofs.FormedValues.{named, name_makes, enum_value_makes, maybe_directives, default_value_makes, type_makes}

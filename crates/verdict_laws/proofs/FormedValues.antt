@@ -23,7 +23,7 @@ use Rattle.read_grammar.specs.Rules.{Rule, ◌·◌, ◌<$>◌, ◌∣◌}
 use Rattle.read_grammar.specs.ValueGrammar as g
 use Rattle.read_grammar.specs.ValueGrammar.{Const, constant, items_of, entries_of, argument_of, directive_of, type_of}
 use Rattle.read_grammar.proofs.Tests.{subset, from_subset}
-use Rattle.read_again.specs.WellFormed.{type_well_formed, value_well_formed, items_well_formed, entries_well_formed, arguments_well_formed, directives_well_formed}
+use Rattle.round_trip.specs.WellFormed.{type_well_formed, value_well_formed, items_well_formed, entries_well_formed, arguments_well_formed, directives_well_formed}
 use Rattle.verdict_laws.proofs.Taken.{IsTaken, Makes, token, any_token, mapped, mark, seq, choice, never, maybe_any, or_none, several, some_all, enclosed, located}
 
 -- ---- texts of tokens

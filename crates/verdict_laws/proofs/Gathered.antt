@@ -14,7 +14,7 @@ use Rattle.schema_fold.specs.in_components.Names.{by_bytes}
 use Rattle.schema_fold.proofs.in_components.Firsts.{has_name-push, has_name-firsts}
 use Rattle.schema_fold.proofs.in_components.NamedEquality.{by_bytes-IsAntisymmetric}
 use Rattle.schema_fold.specs.in_definitions.DefinitionTree.{DefinitionTree, unplaced_definition, unplaced_document}
-use Rattle.schema_fold.specs.Listed.{Definitions}
+use Rattle.schema_fold.specs.NumberedDefinition.{Definitions}
 
 -- ---- lists
 

@@ -12,14 +12,14 @@ use Rattle.read_grammar.specs.Meaning.{Meaning}
 use Rattle.read_grammar.specs.Rules.{Rule}
 use Rattle.read_grammar.specs.Grammar.{DerivesAs, Derives, document}
 use Rattle.read_grammar.proofs.Laws.{one_document}
-use Rattle.read_again.specs.Literals.{LiteralsRead}
-use Rattle.read_again.specs.Printed.{Follow, ends_definition, LexesAt, before, Printed}
-use Rattle.read_again.specs.ReadsAlone.{ReadsAlone}
-use Rattle.read_again.specs.Definitions.{definition_well_formed, definition_depth}
-use Rattle.read_again.specs.WellFormed.{depths, is_white_prefix}
-use Rattle.read_again.proofs.Sequences.{ignored_piece}
-use Rattle.read_again.proofs.Whole.{OneTree}
-use Rattle.read_again.proofs.Documents.{document_read}
+use Rattle.round_trip.specs.Literals.{LiteralsRead}
+use Rattle.round_trip.specs.Printed.{Follow, ends_definition, LexesAt, before, Printed}
+use Rattle.round_trip.specs.ReadsAlone.{ReadsAlone}
+use Rattle.round_trip.specs.Definitions.{definition_well_formed, definition_depth}
+use Rattle.round_trip.specs.WellFormed.{depths, is_white_prefix}
+use Rattle.round_trip.proofs.Sequences.{ignored_piece}
+use Rattle.round_trip.proofs.Whole.{OneTree}
+use Rattle.round_trip.proofs.Documents.{document_read}
 use Rattle.verdict_definitions.specs.Out.{Layout}
 
 -- a line feed has no token

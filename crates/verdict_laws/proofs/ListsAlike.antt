@@ -5,7 +5,7 @@ use Rattle.std.proofs.lemmas.List.{map-append}
 use Rattle.std.proofs.lemmas.Grind.{flat_map-append}
 use Rattle.graphql_names.specs.Placed.{Place}
 use Rattle.schema_fold.specs.in_definitions.DefinitionTree.{DefinitionTree}
-use Rattle.schema_fold.specs.Listed.{Definitions}
+use Rattle.schema_fold.specs.NumberedDefinition.{Definitions}
 use Rattle.verdict_laws.specs.RearrangedLists.{IsRearranged}
 use Rattle.verdict_laws.proofs.RearrangedLists.{types_same, schemas_same, schema_extensions_same}
 use Rattle.verdict_laws.proofs.Roots.{objects, defined, base}

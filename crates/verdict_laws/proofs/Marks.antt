@@ -19,7 +19,7 @@ use Rattle.schema_fold.specs.in_schema_types.Plain.{plain_directive_definition}
 use Rattle.schema_fold.specs.in_schema_types.TypeParts.{TypeParts, TypeDefinition, type_here, type_extension_here}
 use Rattle.schema_fold.specs.in_schema_types.Addresses.{Address, TypeAt, DirectiveDefinitionAt, FieldAt, ValueAt, InputAt, ArgumentAt, under, or_nothing, place_of, in_type, directive_definition_at, field_at, value_at, input_at, is_marked}
 use Rattle.schema_fold.specs.in_schema_types.declared.type_kind.TypeKind.{TypeKind}
-use Rattle.schema_fold.specs.Listed.{Definitions, numbered, type_name, types_in, type_named, directive_here, directive_name, directives_in}
+use Rattle.schema_fold.specs.NumberedDefinition.{Definitions, numbered, type_name, types_in, type_named, directive_here, directive_name, directives_in}
 use Rattle.schema_fold.specs.Components.{all_given, parts_of, components, field_key, value_key, input_key, keyed_firsts}
 use Rattle.schema_fold.specs.Fold.{folded_type, chosen_directive, fold}
 use Rattle.rule_definitions.proofs.Lists.{slice_get-map}

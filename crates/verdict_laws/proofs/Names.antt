@@ -11,7 +11,7 @@ use Rattle.schema_components.specs.Lists.{each_place_after, firsts, has_name, is
 use Rattle.schema_components.specs.Given.{Given, ExtensionTree, given_name}
 use Rattle.schema_types.specs.TypeParts.{TypeParts, TypeDefinition}
 use Rattle.schema_types.specs.Out.{is_empty}
-use Rattle.schema_fold.specs.Listed.{Definitions, numbered}
+use Rattle.schema_fold.specs.NumberedDefinition.{Definitions, numbered}
 use Rattle.schema_fold.specs.Components.{all_given, components, field_key, value_key, input_key}
 use Rattle.verdict_laws.specs.Arranged.{arranged}
 use Rattle.verdict_laws.specs.Whole.{Extension, classes, extensions_in}

@@ -9,7 +9,7 @@ use Rattle.tree_definitions.specs.DefinitionTree.{DefinitionTree}
 use Rattle.schema_components.specs.Lists.{firsts}
 use Rattle.schema_types.specs.SchemaTree.{same_kind}
 use Rattle.schema_types.specs.TypeParts.{TypeParts, TypeDefinition, type_extension_here}
-use Rattle.schema_fold.specs.Listed.{Definitions, type_name, types_in}
+use Rattle.schema_fold.specs.NumberedDefinition.{Definitions, type_name, types_in}
 use Rattle.verdict_laws.specs.Arranged.{arranged}
 use Rattle.verdict_laws.specs.Whole.{Extension, classes, extensions_in, whole_definition, whole_extension, whole_type}
 use Rattle.verdict_laws.proofs.Order.{Each, Each-append, Each-arranged}

@@ -11,7 +11,7 @@ use Rattle.tree_definitions.specs.Queries.{is_extension, definition_place}
 use Rattle.schema_components.specs.Lists.{each_place_after}
 use Rattle.schema_components.specs.Given.{Given, ExtensionTree}
 use Rattle.schema_types.specs.TypeParts.{TypeParts, type_extension_here}
-use Rattle.schema_fold.specs.Listed.{Definitions, Listed, listed_after, numbered, extension_number}
+use Rattle.schema_fold.specs.NumberedDefinition.{Definitions, NumberedDefinition, listed_after, numbered, extension_number}
 use Rattle.schema_fold.specs.Components.{go_together, extension_here}
 use Rattle.verdict_laws.specs.Whole.{Extension, extensions_in}
 use Rattle.verdict_laws.proofs.Whole.{Numbered, NumberedOf, as_given, AscendFrom, lower}
@@ -25,7 +25,7 @@ extension_is (tree.ExtendEnum q t) p e = refl
 extension_is (tree.ExtendInputObject q t) p e = refl
 extension_is _ p e = cc
 
-abbrev numbered_after : ℕ → Definitions → Definitions → List Listed
+abbrev numbered_after : ℕ → Definitions → Definitions → List NumberedDefinition
 numbered_after first before ds = each_place_after (λ before d. listed_after first before d ∷ []) before ds
 
 -- without its number
@@ -40,7 +40,7 @@ module _ {Q : Type 0} (here : DefinitionTree Place → Option Q) (pick : Q → B
   abbrev pair_of : Option (ExtensionTree Place) → Option Q → List (NumberedOf Q)
   pair_of e o = option_map_or (λ parts. if pick parts then option_map_or (λ e. (e, parts) ∷ []) e [] else []) o []
 
-  abbrev pub pairs_by : List Listed → List (NumberedOf Q)
+  abbrev pub pairs_by : List NumberedDefinition → List (NumberedOf Q)
   pairs_by ls = flat_map (λ l. pair_of l.extension (here l.definition)) ls
 
   abbrev pub here_of : Option (ExtensionTree Place) → Option Q → List (Given Place Q)
@@ -138,7 +138,7 @@ module _ {Q : Type 0} (here : DefinitionTree Place → Option Q) (pick : Q → B
 -- ---- of one type
 
 module _ (defined : TypeParts Place) where
-  abbrev pub pairs : List Listed → List Numbered
+  abbrev pub pairs : List NumberedDefinition → List Numbered
   pairs ls = pairs_by type_extension_here (go_together defined) extension_is ls
 
   pub extensions_given : (first : ℕ) (ds : Definitions) → flat_map (extension_here defined) (numbered first ds) ≡ map as_given (pairs (numbered first ds))

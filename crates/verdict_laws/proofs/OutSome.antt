@@ -8,13 +8,13 @@ use Rattle.graphql_names.specs.Places.{is_built_in}
 use Rattle.graphql_names.specs.Placed.{Place, Text}
 use Rattle.tree_definitions.specs.Writable.{has_some, definition_writable}
 use Rattle.schema_components.specs.Lists.{firsts}
-use Rattle.schema_components.specs.in_values.OperationQueries.{default_root_name}
+use Rattle.schema_components.specs.in_operations.OperationQueries.{default_root_name}
 use Rattle.schema_components.specs.in_operations.in_directives.declared.operation_type.OperationType.TheVariants as operation
 use Rattle.schema_types.specs.SchemaTree.{same_kind}
 use Rattle.schema_types.specs.TypeParts.{TypeDefinition}
 use Rattle.schema_types.specs.Out.{is_empty, is_object_named, written_schema, written_directive, written_type}
 use Rattle.schema_types.specs.declared.type_kind.TypeKind.TheVariants.{Object}
-use Rattle.schema_fold.specs.Listed.{Definitions, numbered, type_name, types_in}
+use Rattle.schema_fold.specs.NumberedDefinition.{Definitions, numbered, type_name, types_in}
 use Rattle.schema_fold.specs.SchemaFold.{schema_base}
 use Rattle.schema_fold.specs.Fold.{fold, folded_type, folded_types}
 use Rattle.schema_fold.specs.BuildErrors.{FoldingRules}

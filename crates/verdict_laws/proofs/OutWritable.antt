@@ -12,15 +12,15 @@ use Rattle.tree_definitions.specs.DefinitionTree as tree
 use Rattle.tree_definitions.specs.DefinitionTree.{DefinitionTree}
 use Rattle.tree_definitions.specs.Queries.{definition_place}
 use Rattle.tree_definitions.specs.Writable.{has_some, schema_writable, schema_extension_writable, definition_writable}
-use Rattle.tree_definitions.specs.in_values.Writable.{directives_writable, directive_definition_writable}
-use Rattle.schema_components.specs.in_values.OperationQueries.{operation_keyword}
+use Rattle.tree_definitions.specs.in_operations.Writable.{directives_writable, directive_definition_writable}
+use Rattle.schema_components.specs.in_operations.OperationQueries.{operation_keyword}
 use Rattle.schema_components.specs.in_operations.in_directives.declared.operation_type.OperationType.{OperationType}
 use Rattle.schema_components.specs.in_operations.in_directives.declared.operation_type.OperationType.TheVariants as operation
 use Rattle.schema_components.specs.Lists.{firsts}
 use Rattle.schema_types.specs.SchemaTree.{same_kind}
 use Rattle.schema_types.specs.TypeParts.{TypeParts, TypeDefinition, type_here, type_extension_here, extension_by}
 use Rattle.schema_types.specs.Out.{is_empty, is_object_named, written_directive}
-use Rattle.schema_fold.specs.Listed.{Definitions, type_name, types_in, directive_name, directives_in}
+use Rattle.schema_fold.specs.NumberedDefinition.{Definitions, type_name, types_in, directive_name, directives_in}
 use Rattle.schema_fold.specs.Components.{go_together}
 use Rattle.schema_fold.specs.SchemaFold.{Root, SchemaGiver, schema_here, schema_extension_here, schema_base, implicit_roots, schema_is_defined}
 use Rattle.schema_fold.specs.Fold.{chosen_directive, folded_types}

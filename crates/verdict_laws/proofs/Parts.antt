@@ -19,7 +19,7 @@ use Rattle.schema_fold.proofs.in_components.NamedEquality.{by_bytes-IsAntisymmet
 use Rattle.schema_fold.specs.in_schema_types.SchemaTree.{SchemaType, same_kind}
 use Rattle.schema_fold.specs.in_schema_types.TypeParts.{TypeParts, TypeDefinition, type_here, type_extension_here}
 use Rattle.schema_fold.specs.in_schema_types.Plain.{PlainType, plain_type}
-use Rattle.schema_fold.specs.Listed.{Definitions, listed_after, numbered, type_name, types_in, type_named}
+use Rattle.schema_fold.specs.NumberedDefinition.{Definitions, listed_after, numbered, type_name, types_in, type_named}
 use Rattle.schema_fold.specs.Components.{all_given, go_together, extension_here, parts_of, components, field_key, value_key, input_key, keyed_firsts}
 use Rattle.schema_fold.specs.Fold.{folded_type, folded_types}
 use Rattle.verdict_laws.proofs.Gathered.{map-filter, find-filter, get-of_firsts, map_of_firsts, set_of_firsts}

@@ -11,7 +11,7 @@ use Rattle.schema_fold.specs.in_definitions.DefinitionTree as tree
 use Rattle.schema_fold.specs.in_definitions.DefinitionTree.{DefinitionTree, unplaced_definition, unplaced_document}
 use Rattle.schema_fold.specs.in_definitions.Queries.{is_executable}
 use Rattle.schema_fold.specs.in_schema_types.TypeParts.{TypeParts, TypeDefinition, type_here, type_extension_here}
-use Rattle.schema_fold.specs.Listed.{Definitions, type_name, directive_here, directive_name}
+use Rattle.schema_fold.specs.NumberedDefinition.{Definitions, type_name, directive_here, directive_name}
 use Rattle.schema_fold.specs.SchemaFold.{schema_here, schema_extension_here}
 use Rattle.verdict_laws.specs.RearrangedLists.{defines_type, extends_type, defines_directive, defines_schema, is_schema_extension, AgreeOn, IsRearranged}
 use Rattle.verdict_laws.specs.Permuting.{CanPass, IsPermuted, nothing, next, PermutedIsRearranged, RearrangedIsPermuted, RearrangingIsAnEquivalence}

@@ -24,7 +24,7 @@ use Rattle.schema_components.proofs.NamedFacts.{same_under}
 use Rattle.schema_types.specs.TypeParts.{TypeParts, TypeDefinition}
 use Rattle.schema_types.specs.Plain.{plain_type}
 use Rattle.schema_types.specs.Out.{is_empty}
-use Rattle.schema_fold.specs.Listed.{Definitions, numbered}
+use Rattle.schema_fold.specs.NumberedDefinition.{Definitions, numbered}
 use Rattle.schema_fold.specs.Components.{all_given, components, keyed_firsts, field_key, value_key, input_key}
 use Rattle.schema_fold.specs.Fold.{folded_type}
 use Rattle.verdict_laws.specs.Arranged.{arranged}

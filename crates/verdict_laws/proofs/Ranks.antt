@@ -13,7 +13,7 @@ use Rattle.schema_fold.specs.in_components.Given.{Given}
 use Rattle.schema_fold.specs.in_schema_types.SchemaTree.{SchemaRoots}
 use Rattle.schema_fold.specs.in_schema_types.TypeParts.{TypeParts, TypeDefinition, definition_by, extension_by}
 use Rattle.schema_fold.specs.in_schema_types.Out.{written_type}
-use Rattle.schema_fold.specs.Listed.{Definitions, numbered, extension_number}
+use Rattle.schema_fold.specs.NumberedDefinition.{Definitions, numbered, extension_number}
 use Rattle.schema_fold.specs.SchemaFold.{schema_extension_here, schema_base, schema_is_defined, extends_schema, folded_schema}
 use Rattle.schema_fold.specs.Fold.{folded_type}
 use Rattle.verdict_laws.specs.Whole.{extensions_in}

@@ -13,13 +13,13 @@ use Rattle.read_operations.specs.Meanings.{in_file}
 use Rattle.graphql_read.specs.Reads.{HasTree, NestingBound}
 use Rattle.graphql_read.proofs.Bounds.{not_passed}
 use Rattle.graphql_read.proofs.Soundness.{document_sound}
-use Rattle.read_again.specs.Definitions.{definition_well_formed}
-use Rattle.read_again.specs.ReadsAlone.{ReadsAlone}
-use Rattle.read_again.proofs.Alone.{literals_read, document_alone}
-use Rattle.read_again.proofs.Unplaced.{document_same}
-use Rattle.read_again.specs.TreeDepth.{document_depth}
-use Rattle.read_again.proofs.DocumentsNest.{derived_depth}
-use Rattle.read_again.proofs.NestAlike.{document_read_depth}
+use Rattle.round_trip.specs.Definitions.{definition_well_formed}
+use Rattle.round_trip.specs.ReadsAlone.{ReadsAlone}
+use Rattle.round_trip.proofs.Alone.{literals_read, document_alone}
+use Rattle.round_trip.proofs.Unplaced.{document_same}
+use Rattle.round_trip.specs.TreeDepth.{document_depth}
+use Rattle.round_trip.proofs.DocumentsNest.{derived_depth}
+use Rattle.round_trip.proofs.NestAlike.{document_read_depth}
 use Rattle.rule_schema_laws.specs.ReadTexts.{Texts, AreReadElsewhere}
 use Rattle.verdict_laws.specs.ReadTexts.{all_of}
 use Rattle.verdict_laws.specs.Elsewhere.{AreAllElsewhere}

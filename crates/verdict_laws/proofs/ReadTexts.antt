@@ -11,7 +11,7 @@ use Rattle.schema_fold.specs.in_type_members.TypeSystemTree.{FieldDefinitionTree
 use Rattle.schema_fold.specs.in_definitions.DefinitionTree as tree
 use Rattle.schema_fold.specs.in_definitions.DefinitionTree.{DefinitionTree, unplaced_document}
 use Rattle.schema_fold.specs.in_schema_types.TypeParts.{TypeParts, type_here, type_extension_here}
-use Rattle.schema_fold.specs.Listed.{Definitions, directive_here}
+use Rattle.schema_fold.specs.NumberedDefinition.{Definitions, directive_here}
 use Rattle.schema_fold.specs.Adoption.{Settings}
 use Rattle.schema_fold.specs.BuiltIn.{built_in_definitions}
 use Rattle.graphql_read.specs.EachPlace.{all_in_text, all_in_any, all_in_type, all_in_directives, all_in_node, all_in_nodes, all_in_input_value, all_in_input_values, all_in_field_definition, all_in_enum_value, all_in_fields, all_in_enum, all_in_input_object, all_in_directive_definition, all_in_definition}

@@ -4,7 +4,7 @@ use Rattle.std.specs.List.{list_all, AllByRecursion}
 use Rattle.graphql_names.specs.Places.{is_built_in}
 use Rattle.schema_types.specs.TypeParts.{type_extension_here}
 use Rattle.schema_built_in.specs.Table.{built_in_definitions}
-use Rattle.schema_fold.specs.Listed.{types_in, directives_in}
+use Rattle.schema_fold.specs.NumberedDefinition.{types_in, directives_in}
 use Rattle.schema_fold.specs.SchemaFold.{schema_here, schema_extension_here}
 use Rattle.verdict_laws.specs.Table.{IsTable, HasNoQuery}
 

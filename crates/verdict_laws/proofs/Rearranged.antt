@@ -9,7 +9,7 @@ use Rattle.tree_definitions.specs.DefinitionTree.{DefinitionTree, unplaced_defin
 use Rattle.tree_definitions.specs.Queries.{is_executable, is_extension}
 use Rattle.schema_built_in.specs.Table.{built_in_definitions}
 use Rattle.schema_components.specs.Lists.{StandsAfter}
-use Rattle.schema_fold.specs.Listed.{Definitions}
+use Rattle.schema_fold.specs.NumberedDefinition.{Definitions}
 use Rattle.schema_fold.specs.BuildErrors as folding
 use Rattle.schema_fold.specs.BuildErrors.{FoldingRules}
 use Rattle.schema_building.specs.Numbers.{extension_count, HaveNumbers}
@@ -24,9 +24,9 @@ use Rattle.graphql_read.specs.in_read_operations.Meanings.{in_file}
 use Rattle.graphql_read.specs.Reads.{NestingBound}
 use Rattle.graphql_read.proofs.Soundness.{document_sound}
 use Rattle.graphql_read.proofs.Bounds.{within_all}
-use Rattle.read_again.specs.TreeDepth.{deepest, definition_depth, document_depth}
-use Rattle.read_again.proofs.DocumentsNest.{derived_depth}
-use Rattle.read_again.proofs.UnplacedNests.{document_unplaced}
+use Rattle.round_trip.specs.TreeDepth.{deepest, definition_depth, document_depth}
+use Rattle.round_trip.proofs.DocumentsNest.{derived_depth}
+use Rattle.round_trip.proofs.UnplacedNests.{document_unplaced}
 use Rattle.rule_schema_laws.specs.ReadTexts.{Texts, AreReadElsewhere}
 use Rattle.verdict_laws.specs.RearrangedLists.{IsRearranged}
 use Rattle.verdict_laws.specs.Permuting.{IsPermuted, nothing, next}

@@ -7,7 +7,7 @@ use Rattle.std.specs.Cmp.Lexicographic.{nat_list_cmp_total}
 use Rattle.std.proofs.lemmas.List.{map-append}
 use Rattle.std.proofs.lemmas.Simd.{map-map}
 use Rattle.graphql_names.specs.Placed.{Place, Placed, Text, unplaced_text, unplaced_node}
-use Rattle.schema_fold.specs.in_schema_types.in_values.OperationQueries.{operation_keyword, default_root_name}
+use Rattle.schema_fold.specs.in_schema_types.in_operations.OperationQueries.{operation_keyword, default_root_name}
 use Rattle.schema_fold.specs.in_directives.declared.operation_type.OperationType.{OperationType}
 use Rattle.schema_fold.specs.in_directives.declared.operation_type.OperationType.TheVariants as operation
 use Rattle.schema_fold.specs.in_directives.DirectiveTree.{DirectiveTree, DirectiveDefinitionTree, unplaced_directive}
@@ -22,7 +22,7 @@ use Rattle.schema_fold.specs.in_schema_types.SchemaTree.{same_kind}
 use Rattle.schema_fold.specs.in_schema_types.declared.type_kind.TypeKind.TheVariants as kind
 use Rattle.schema_fold.specs.in_schema_types.TypeParts.{TypeDefinition}
 use Rattle.schema_fold.specs.in_schema_types.Plain.{plain_roots, plain_directive_definition}
-use Rattle.schema_fold.specs.Listed.{Definitions, listed_after, numbered, type_named, directive_here, directive_name, directives_in}
+use Rattle.schema_fold.specs.NumberedDefinition.{Definitions, listed_after, numbered, type_named, directive_here, directive_name, directives_in}
 use Rattle.schema_fold.specs.Components.{all_given}
 use Rattle.schema_fold.specs.SchemaFold.{Root, SchemaGiver, schema_here, schema_extension_here, schema_definition_in, is_object_in, implicit_roots, schema_is_defined, schema_base, extends_schema, schema_parts_given, roots_given, root_key, root_in, folded_schema}
 use Rattle.schema_fold.specs.Fold.{chosen_directive, folded_directives}

@@ -13,7 +13,7 @@ use Rattle.schema_fold.proofs.in_components.Places.{Contains-first, Contains-res
 use Rattle.schema_types.specs.SchemaTree.{SchemaType}
 use Rattle.schema_types.specs.TypeParts.{TypeParts, TypeDefinition, type_extension_here}
 use Rattle.schema_types.specs.Addresses.{Address, TypeAt, DirectiveDefinitionAt, FieldAt, ValueAt, InputAt, ArgumentAt, under, or_nothing, place_of, in_type, is_marked}
-use Rattle.schema_fold.specs.Listed.{Definitions, listed_after, numbered, type_name, types_in}
+use Rattle.schema_fold.specs.NumberedDefinition.{Definitions, listed_after, numbered, type_name, types_in}
 use Rattle.schema_fold.specs.Components.{all_given, go_together, extension_here, components, field_key, value_key, input_key, keyed_firsts}
 use Rattle.schema_fold.specs.Fold.{folded_type, folded_directives, fold}
 use Rattle.schema_fold.specs.BuildErrors.{FoldingRules}

@@ -3,11 +3,11 @@ use Rattle.std.proofs.Common.{◌≡◌, ◌≢◌, ◌≤◌, true, List, [], �
 use Rattle.std.specs.List.{list_all}
 use Rattle.graphql_names.specs.Placed.{Place}
 use Rattle.tree_definitions.specs.DefinitionTree.{unplaced_document}
-use Rattle.read_again.specs.Definitions.{definition_well_formed}
-use Rattle.read_again.specs.TreeDepth.{document_depth}
+use Rattle.round_trip.specs.Definitions.{definition_well_formed}
+use Rattle.round_trip.specs.TreeDepth.{document_depth}
 use Rattle.schema_types.specs.SchemaTree.{SchemaTree}
 use Rattle.schema_built_in.specs.Table.{built_in_definitions}
-use Rattle.schema_fold.specs.Listed.{Definitions}
+use Rattle.schema_fold.specs.NumberedDefinition.{Definitions}
 use Rattle.schema_fold.specs.Fold.{fold}
 use Rattle.schema_fold.specs.BuildErrors.{FoldingRules}
 use Rattle.schema_building.specs.Numbers.{extension_count}

@@ -8,7 +8,7 @@ use Rattle.std.proofs.lemmas.List.Elements.{filter-append}
 use Rattle.std.proofs.lemmas.Grind.{flat_map-append}
 use Rattle.std.proofs.lemmas.Slice.Eq.{bytes_eq-Decides}
 use Rattle.graphql_names.specs.Placed.{Placed, Place, Text}
-use Rattle.schema_components.specs.in_values.OperationQueries.{operation_keyword, default_root_name}
+use Rattle.schema_components.specs.in_operations.OperationQueries.{operation_keyword, default_root_name}
 use Rattle.schema_components.specs.in_operations.in_directives.declared.operation_type.OperationType.{OperationType}
 use Rattle.schema_components.specs.in_operations.in_directives.declared.operation_type.OperationType.TheVariants as operation
 use Rattle.schema_components.specs.Lists.{firsts}
@@ -20,7 +20,7 @@ use Rattle.schema_types.specs.SchemaTree.{SchemaType, same_kind}
 use Rattle.schema_types.specs.TypeParts.{TypeDefinition}
 use Rattle.schema_types.specs.Out.{is_empty, is_object_named, written_schema}
 use Rattle.schema_types.specs.declared.type_kind.TypeKind.TheVariants.{Object}
-use Rattle.schema_fold.specs.Listed.{Definitions, Listed, numbered, type_name, types_in}
+use Rattle.schema_fold.specs.NumberedDefinition.{Definitions, NumberedDefinition, numbered, type_name, types_in}
 use Rattle.schema_fold.specs.SchemaFold.{Root, SchemaGiver, schema_here, schema_extension_here, schema_definition_in, schema_is_defined, schema_base, extends_schema, implicit_roots, is_object_in, roots_given, root_key, root_in, folded_schema}
 use Rattle.schema_fold.specs.Fold.{fold, folded_type, folded_types}
 use Rattle.schema_fold.specs.BuildErrors.{FoldingRules, orphan_schema_extension, duplicate_root_operation}
@@ -159,7 +159,7 @@ applied_none first ds none true = refl
 applied_none first ds none false = sym (extends_are first ds ∙ ap (map as_given) (unmapped unnumbered (es first ds) (unnumbered_are first ds ∙ none)))
 
 -- which names are those of objects
-objects_are : (n : List ℕ) (list : List Listed) (ts : List (TypeDefinition Place)) → is_object_named (map (λ t. (type_name t, folded_type list t)) ts) n ≡ option_map_or (λ t. same_kind t.parts.kind Object) (find (λ t. bytes_eq n (type_name t)) ts) false
+objects_are : (n : List ℕ) (list : List NumberedDefinition) (ts : List (TypeDefinition Place)) → is_object_named (map (λ t. (type_name t, folded_type list t)) ts) n ≡ option_map_or (λ t. same_kind t.parts.kind Object) (find (λ t. bytes_eq n (type_name t)) ts) false
 objects_are n list [] = refl
 objects_are n list (t ∷ ts) = by (bytes_eq n (type_name t)) (objects_are n list ts)
   where

@@ -7,7 +7,7 @@ use Rattle.std.proofs.lemmas.List.{append-nil, map-append}
 use Rattle.std.proofs.lemmas.List.Elements.{filter-append}
 use Rattle.std.proofs.lemmas.Simd.{map-map}
 use Rattle.graphql_names.specs.Placed.{Placed, Place, Text}
-use Rattle.schema_components.specs.in_values.OperationQueries.{operation_keyword, default_root_name}
+use Rattle.schema_components.specs.in_operations.OperationQueries.{operation_keyword, default_root_name}
 use Rattle.schema_components.specs.in_operations.in_directives.declared.operation_type.OperationType.{OperationType}
 use Rattle.schema_components.specs.in_operations.in_directives.declared.operation_type.OperationType.TheVariants as operation
 use Rattle.schema_components.specs.Given.{Given, ExtensionTree, given_name}
@@ -20,7 +20,7 @@ use Rattle.tree_definitions.specs.DefinitionTree.{DefinitionTree, Schema, Extend
 use Rattle.tree_definitions.specs.Queries.{is_extension}
 use Rattle.schema_types.specs.SchemaTree.{SchemaType, SchemaRoots}
 use Rattle.schema_types.specs.Out.{is_empty, givers, given_by, each_once, schema_parts_given_by, extensions_of_schema, is_object_named, is_implicit_root}
-use Rattle.schema_fold.specs.Listed.{Definitions, numbered}
+use Rattle.schema_fold.specs.NumberedDefinition.{Definitions, numbered}
 use Rattle.schema_fold.specs.Components.{all_given}
 use Rattle.schema_fold.specs.SchemaFold.{Root, SchemaGiver, schema_extension_here, schema_is_defined, schema_base, extends_schema, schema_parts_given, roots_given, root_key, root_in, folded_schema}
 use Rattle.verdict_laws.specs.Arranged.{arranged}

@@ -4,7 +4,7 @@ use Rattle.std.specs.Option.{option_map, option_map_or}
 use Rattle.schema_components.specs.Given.{given_name}
 use Rattle.schema_components.specs.in_operations.in_directives.declared.operation_type.OperationType.TheVariants as operation
 use Rattle.schema_built_in.specs.Table.{built_in_definitions}
-use Rattle.schema_fold.specs.Listed.{Definitions, numbered}
+use Rattle.schema_fold.specs.NumberedDefinition.{Definitions, numbered}
 use Rattle.schema_fold.specs.Components.{all_given}
 use Rattle.schema_fold.specs.SchemaFold.{Root, SchemaGiver, schema_definition_in, schema_is_defined, schema_base, implicit_roots, extends_schema, root_in, folded_schema}
 use Rattle.rule_definitions.specs.Faults.{told}

@@ -5,7 +5,7 @@ use Rattle.std.specs.Option.{option_map, option_map_or}
 use Rattle.std.specs.Str.{bytes_eq}
 use Rattle.std.proofs.lemmas.Option.{same_Some}
 use Rattle.graphql_names.specs.Placed.{Place}
-use Rattle.schema_components.specs.in_values.OperationQueries.{default_root_name}
+use Rattle.schema_components.specs.in_operations.OperationQueries.{default_root_name}
 use Rattle.schema_components.specs.in_operations.in_directives.declared.operation_type.OperationType.{OperationType}
 use Rattle.schema_components.specs.in_operations.in_directives.declared.operation_type.OperationType.TheVariants as operation
 use Rattle.schema_components.specs.Given.{given_name, plain_given}
@@ -18,7 +18,7 @@ use Rattle.schema_types.specs.TypeParts.{TypeDefinition}
 use Rattle.schema_types.specs.declared.type_kind.TypeKind.TheVariants.{Object}
 use Rattle.schema_types.proofs.UnderNames.{get_under}
 use Rattle.schema_built_in.specs.Table.{built_in_definitions}
-use Rattle.schema_fold.specs.Listed.{Definitions, numbered, type_name, types_in, type_named}
+use Rattle.schema_fold.specs.NumberedDefinition.{Definitions, numbered, type_name, types_in, type_named}
 use Rattle.schema_fold.specs.Components.{all_given, field_key, keyed_firsts}
 use Rattle.schema_fold.specs.SchemaFold.{Root, is_object_in, implicit_roots, schema_base, root_in, folded_schema}
 use Rattle.schema_fold.specs.Fold.{fold, folded_type}
@@ -26,7 +26,7 @@ use Rattle.rule_definitions.specs.Diagnostics.{QueryRootOperationType, EmptyFiel
 use Rattle.rule_definitions.specs.Faults.{told}
 use Rattle.rule_definitions.specs.Judged.{judged}
 use Rattle.rule_definitions.specs.Rules.{SchemaRules}
-use Rattle.read_again.specs.TreeDepth.{definition_depth, document_depth}
+use Rattle.round_trip.specs.TreeDepth.{definition_depth, document_depth}
 use Rattle.verdict_laws.proofs.Order.{Each, Each-append, Each-map}
 use Rattle.verdict_laws.proofs.Again.{kinds_same}
 use Rattle.verdict_laws.proofs.Depth.{all_fit}

@@ -17,7 +17,7 @@ use Rattle.schema_fold.specs.in_schema_types.TypeParts.{TypeParts, TypeDefinitio
 use Rattle.schema_fold.specs.in_schema_types.declared.type_kind.TypeKind.{TypeKind}
 use Rattle.schema_fold.specs.in_schema_types.declared.type_kind.TypeKind.TheVariants as kind
 use Rattle.schema_fold.specs.in_schema_types.Plain.{plain_directive_definition}
-use Rattle.schema_fold.specs.Listed.{Definitions, type_name, directive_here, directive_name}
+use Rattle.schema_fold.specs.NumberedDefinition.{Definitions, type_name, directive_here, directive_name}
 use Rattle.schema_fold.specs.SchemaFold.{schema_here, schema_extension_here}
 use Rattle.verdict_laws.specs.RearrangedLists.{defines_type, extends_type, defines_directive, defines_schema, is_schema_extension, AgreeOn, IsRearranged}
 use Rattle.verdict_laws.proofs.Gathered.{map-filter, find-filter}

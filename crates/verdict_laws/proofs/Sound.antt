@@ -9,7 +9,7 @@ use Rattle.tree_definitions.specs.DefinitionTree as tree
 use Rattle.tree_definitions.specs.DefinitionTree.{DefinitionTree}
 use Rattle.tree_definitions.specs.Writable.{has_some, definition_writable}
 use Rattle.schema_types.specs.TypeParts.{TypeDefinition, type_here}
-use Rattle.schema_fold.specs.Listed.{types_in, directive_here, directives_in}
+use Rattle.schema_fold.specs.NumberedDefinition.{types_in, directive_here, directives_in}
 use Rattle.graphql_read.specs.EachPlace.{all_in_definition, all_in_document}
 use Rattle.graphql_read.specs.Sound.{is_own}
 use Rattle.graphql_read.proofs.Soundness.{document_sound}

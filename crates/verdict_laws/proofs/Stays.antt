@@ -17,7 +17,7 @@ use Rattle.schema_components.specs.Lists.{firsts}
 use Rattle.schema_types.specs.SchemaTree.{same_kind}
 use Rattle.schema_types.specs.TypeParts.{TypeParts, TypeDefinition, type_here, type_extension_here, extension_by}
 use Rattle.schema_types.specs.Out.{is_empty, is_object_named, written_directive}
-use Rattle.schema_fold.specs.Listed.{Definitions, type_name, types_in, directive_name, directives_in}
+use Rattle.schema_fold.specs.NumberedDefinition.{Definitions, type_name, types_in, directive_name, directives_in}
 use Rattle.schema_fold.specs.Components.{go_together}
 use Rattle.schema_fold.specs.SchemaFold.{SchemaGiver, schema_here, schema_extension_here, schema_base, implicit_roots}
 use Rattle.schema_fold.specs.Fold.{chosen_directive, folded_types}

@@ -9,15 +9,15 @@ use Rattle.tree_definitions.specs.in_type_members.TypeSystemTree.{SchemaParts}
 use Rattle.tree_definitions.specs.DefinitionTree as tree
 use Rattle.tree_definitions.specs.DefinitionTree.{DefinitionTree}
 use Rattle.tree_definitions.specs.Queries.{definition_place}
-use Rattle.schema_components.specs.in_values.OperationQueries.{default_root_name}
+use Rattle.schema_components.specs.in_operations.OperationQueries.{default_root_name}
 use Rattle.schema_components.specs.in_operations.in_directives.declared.operation_type.OperationType.{OperationType}
 use Rattle.schema_components.specs.in_operations.in_directives.declared.operation_type.OperationType.TheVariants as operation
 use Rattle.schema_types.specs.TypeParts.{TypeParts, type_here, type_extension_here, extension_by}
-use Rattle.schema_fold.specs.Listed.{Definitions, directive_here}
+use Rattle.schema_fold.specs.NumberedDefinition.{Definitions, directive_here}
 use Rattle.schema_fold.specs.SchemaFold.{Root, SchemaGiver, schema_here, schema_extension_here, implicit_roots, is_object_in}
 use Rattle.schema_fold.specs.BuildErrors.{FoldingRules}
-use Rattle.read_again.specs.WellFormed.{names_well_formed, directives_well_formed, field_definition_well_formed, enum_value_well_formed, input_values_well_formed, root_well_formed, schema_well_formed}
-use Rattle.read_again.specs.Definitions.{definition_well_formed}
+use Rattle.round_trip.specs.WellFormed.{names_well_formed, directives_well_formed, field_definition_well_formed, enum_value_well_formed, input_values_well_formed, root_well_formed, schema_well_formed}
+use Rattle.round_trip.specs.Definitions.{definition_well_formed}
 use Rattle.verdict_laws.specs.WholeSchema.{roots_of, written_roots, whole_parts}
 use Rattle.verdict_laws.specs.Table.{IsTable, AreOwn}
 use Rattle.verdict_laws.specs.Twice.{WrittenOf}

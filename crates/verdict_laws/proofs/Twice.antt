@@ -17,7 +17,7 @@ use Rattle.schema_types.specs.TypeParts.{TypeParts, TypeDefinition, type_here, t
 use Rattle.schema_types.specs.Out.{schema_parts_given_by, extensions_of_schema, is_left_out, written_schema, written_directive, written_type}
 use Rattle.schema_types.specs.declared.type_kind.TypeKind.{TypeKind}
 use Rattle.schema_types.specs.declared.type_kind.TypeKind.TheVariants.{Scalar, Object, Interface, Union, Enum, InputObject}
-use Rattle.schema_fold.specs.Listed.{Definitions, numbered, type_name, types_in, type_named, directive_here, directive_name, directives_in}
+use Rattle.schema_fold.specs.NumberedDefinition.{Definitions, numbered, type_name, types_in, type_named, directive_here, directive_name, directives_in}
 use Rattle.schema_fold.specs.SchemaFold.{schema_here, schema_extension_here, schema_is_defined, extends_schema, implicit_roots, folded_schema}
 use Rattle.schema_fold.specs.Fold.{fold, folded_directives, folded_types}
 use Rattle.schema_fold.specs.BuildErrors.{FoldingRules}

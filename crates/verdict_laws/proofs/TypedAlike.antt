@@ -14,15 +14,15 @@ use Rattle.tree_definitions.specs.DefinitionTree as tree
 use Rattle.tree_definitions.specs.DefinitionTree.{DefinitionTree, unplaced_definition}
 use Rattle.rule_definitions.proofs.Lists.{Contains-first, not_in_nil}
 use Rattle.rule_document_definitions.specs.FaultsUnplaced.{unplaced_breach}
-use Rattle.document_meaning.specs.MeantTree.{Definition, MeantSelection, MeantField, MeantInline, MeantOperation, MeantFragment, members, meant_then, meant_set, set_on}
-use Rattle.document_meaning.specs.Unplaced.{unplaced_meant, unplaced_set, unplaced_members, unplaced_operation, unplaced_fragment, unplaced_document}
+use Rattle.spec_document.specs.MeantTree.{Definition, MeantSelection, MeantField, MeantInline, MeantOperation, MeantFragment, members, meant_then, meant_set, set_on}
+use Rattle.spec_document.specs.Unplaced.{unplaced_meant, unplaced_set, unplaced_members, unplaced_operation, unplaced_fragment, unplaced_document}
 use Rattle.document_typing.specs.Meanings.{Meanings, inner_type}
 use Rattle.document_typing.specs.KeptSelections.{may_select, is_leaf, kept, kept_all}
 use Rattle.document_typing.specs.KeptDocument.{meant_operation, meant_fragment, kept_document, is_operation}
 use Rattle.document_typing.specs.TypingFaults as typing
 use Rattle.document_typing.specs.TypingFaults.{TypingFault, typing_fault_at, TypingRules}
 use Rattle.document_typing.specs.SetFaults.{leaf_faults, selection_faults, set_faults}
-use Rattle.document_typing.specs.Steps.{Typed, told, faults_if, based, is_under, on_root, with_anonymous, with_named, with_fragment, and_operation, and_fragment, and_definition, nothing, typed_in}
+use Rattle.document_typing.specs.TypedDefinitions.{Typed, told, faults_if, based, is_under, on_root, with_anonymous, with_named, with_fragment, and_operation, and_fragment, and_definition, nothing, typed_in}
 use Rattle.document_typing.proofs.KeptFirsts.{under-made, is_some-made}
 use Rattle.document_typing.proofs.Turns.{typed-is}
 use Rattle.document_typing.proofs.DocumentFailures.{document-fails}

@@ -9,7 +9,7 @@ use Rattle.schema_components.specs.Lists.{firsts}
 use Rattle.schema_components.specs.Given.{ExtensionTree, given_name}
 use Rattle.schema_types.specs.TypeParts.{TypeParts, TypeDefinition, definition_by, extension_by}
 use Rattle.schema_types.specs.Out.{is_empty, givers, entries_givers, given_by, entries_given_by, each_once, type_parts_given_by, extensions_of_type, written_definition, written_extensions, written_type}
-use Rattle.schema_fold.specs.Listed.{Definitions, Listed, numbered}
+use Rattle.schema_fold.specs.NumberedDefinition.{Definitions, NumberedDefinition, numbered}
 use Rattle.schema_fold.specs.Components.{components, keyed_firsts, field_key, value_key, input_key}
 use Rattle.schema_fold.specs.Fold.{folded_type}
 use Rattle.verdict_laws.specs.Arranged.{arranged}
@@ -19,7 +19,7 @@ use Rattle.verdict_laws.proofs.Whole.{Numbered, number_key, giver_of, all_differ
 use Rattle.verdict_laws.proofs.Numbering.{placed, pairs, extensions_given, numbers_ascend, without_numbers}
 
 -- no component of the type is repeated: the first of each name are all
-pub record HasNoRepeats (list : List Listed) (t : TypeDefinition Place) : Type 0 where
+pub record HasNoRepeats (list : List NumberedDefinition) (t : TypeDefinition Place) : Type 0 where
   pub interfaces : firsts given_name (components (λ p. p.interfaces) list t) ≡ components (λ p. p.interfaces) list t
   pub fields : firsts field_key (components (λ p. p.fields) list t) ≡ components (λ p. p.fields) list t
   pub members : firsts given_name (components (λ p. p.members) list t) ≡ components (λ p. p.members) list t
@@ -84,7 +84,7 @@ module _ (first : ℕ) (ds : Definitions) (t : TypeDefinition Place) where
       ∙ ap (λ l. map (λ x. record { extension = None; it = x }) (of t.parts) ++ l) (given_numbered of es_of)
 
 module _ (first : ℕ) (ds : Definitions) (t : TypeDefinition Place) (no_repeats : HasNoRepeats (numbered first ds) t) where
-  abbrev list : List Listed
+  abbrev list : List NumberedDefinition
   list = numbered first ds
 
   abbrev es : List Numbered

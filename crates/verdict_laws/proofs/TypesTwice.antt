@@ -12,7 +12,7 @@ use Rattle.tree_definitions.specs.Queries.{definition_place}
 use Rattle.schema_components.specs.Lists.{firsts, has_name}
 use Rattle.schema_types.specs.TypeParts.{TypeParts, TypeDefinition, type_here, type_extension_here}
 use Rattle.schema_types.specs.Out.{written_type}
-use Rattle.schema_fold.specs.Listed.{Definitions, numbered, type_name, types_in}
+use Rattle.schema_fold.specs.NumberedDefinition.{Definitions, numbered, type_name, types_in}
 use Rattle.schema_fold.specs.Components.{go_together}
 use Rattle.schema_fold.specs.Fold.{folded_type, folded_types}
 use Rattle.schema_fold.specs.Made.{IsDefinition}

@@ -19,7 +19,7 @@ use Rattle.schema_fold.specs.in_schema_types.declared.type_kind.TypeKind.{TypeKi
 use Rattle.schema_fold.specs.in_schema_types.declared.type_kind.TypeKind.TheVariants as kind
 use Rattle.schema_fold.specs.in_schema_types.Plain.{plain_directive_definition}
 use Rattle.schema_fold.specs.in_schema_types.Out.{is_object_named, written_schema, written_directive, written_type}
-use Rattle.schema_fold.specs.Listed.{Definitions, numbered, type_name, types_in, type_named, directive_name, directives_in}
+use Rattle.schema_fold.specs.NumberedDefinition.{Definitions, numbered, type_name, types_in, type_named, directive_name, directives_in}
 use Rattle.schema_fold.specs.SchemaFold.{schema_extension_here, schema_base, schema_is_defined, is_object_in}
 use Rattle.schema_fold.specs.Fold.{folded_type, folded_types, chosen_directive, folded_directives, fold}
 use Rattle.verdict_laws.specs.Twice.{WrittenOf}

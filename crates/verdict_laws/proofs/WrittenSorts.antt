@@ -14,7 +14,7 @@ use Rattle.schema_fold.specs.in_schema_types.SchemaTree.{SchemaType, SchemaRoots
 use Rattle.schema_fold.specs.in_schema_types.TypeParts.{TypeParts, type_here, extension_by}
 use Rattle.schema_fold.specs.in_schema_types.Out.{schema_parts_given_by, extensions_of_schema, extensions_of_type, type_parts_given_by, written_definition, written_extensions}
 use Rattle.schema_fold.specs.in_schema_types.Plain.{plain_directive_definition}
-use Rattle.schema_fold.specs.Listed.{Definitions, type_name, types_in, directive_here, directive_name, directives_in}
+use Rattle.schema_fold.specs.NumberedDefinition.{Definitions, type_name, types_in, directive_here, directive_name, directives_in}
 use Rattle.schema_fold.specs.SchemaFold.{schema_base, is_object_in}
 use Rattle.rule_definitions.proofs.Lookups.{find_given}
 use Rattle.verdict_laws.specs.Table.{AreOwn}

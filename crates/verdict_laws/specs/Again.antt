@@ -1,9 +1,9 @@
--- The road back, by what the checker answers: what is written of an accepted pair, under any plain layout, is checked again, is equal,
--- and is written as it was (GraphQL, October 2021, sections 2, 3 and 5).
+-- The road back, by what the checker answers: what is written of an accepted pair, under any plain layout, is equal when it is checked again, and is
+-- written unchanged (GraphQL, October 2021, sections 2, 3 and 5).
 use Rattle.std.specs.Prelude.{◌≡◌, ◌≢◌, ◌↔◌, ◌⊎◌, false, ℕ, List, [], ◌∷◌, Result, Ok, Err, IfOk, IfErr}
 use Rattle.graphql_names.specs.Placed.{Place}
-use Rattle.document_meaning.specs.MeantTree.{MeantDocument}
-use Rattle.document_meaning.specs.Unplaced.{unplaced_document}
+use Rattle.spec_document.specs.MeantTree.{MeantDocument}
+use Rattle.spec_document.specs.Unplaced.{unplaced_document}
 use Rattle.rule_definitions.specs.Laws.{AreEqual}
 use Rattle.verdict_definitions.specs.Texts.{SourceText, Terms}
 use Rattle.verdict_definitions.specs.Judge.{AreSchemasCertain, IsDocumentCertain, IsCertain}
@@ -28,23 +28,23 @@ use Rattle.verdict_laws.specs.Answers.{AnswersTexts, AnswersFinish, AnswersCheck
 
 -- ---- the schema
 
--- Both schemas are equal, with the same built in and the same limit, and in every layout they are written alike.
+-- The two schemas are equal, with the same things built in and the same nesting limit, and are written the same in every layout.
 pub record SchemasAreSame (first again : CheckedSchemaValue) : Type 0 where
   pub equal : AreEqual first.schema again.schema
   pub nesting : first.nesting ≡ again.nesting
   pub written : (layout : Layout) → layout_text layout again.written ≡ layout_text layout first.written
 
--- The schema is that of these texts, on these terms; no text has the number of what is built in; and its own is under a plain layout.
+-- The schema is that of these texts, on these terms; no text has the number of what is built in; and the layout is plain.
 pub record IsWrittenPlain (terms : Terms) (layout : Layout) (first : CheckedSchemaValue) (schemas : List SourceText) : Type 0 where
   pub is : IsCheckedSchemaOf terms schemas first
   pub elsewhere : terms.first_text ≢ 0
   pub plain : IsPlainLayout layout
 
--- a checker on these terms that was given the text which is written of the schema
+-- a checker on these terms that was given one text: what is written of the schema
 abbrev pub checker_of_written : Terms → Layout → CheckedSchemaValue → CheckerValue
 checker_of_written terms layout first = record { terms = terms; texts = layout_text layout first.written ∷ []; failed = false }
 
--- gives the same schema; and gives one, unless memory runs out, where the texts are accepted for sure
+-- `finish` of that checker answers the same schema, if it answers one; and if the texts are certain, its only refusal is out of memory
 abbrev pub SchemaAgain : Type 0
 SchemaAgain = (terms : Terms) (layout : Layout) (first : CheckedSchemaValue) (schemas : List SourceText) → IsWrittenPlain terms layout first schemas
     → (answer : Result CheckedSchemaValue Refusal) → AnswersFinish (checker_of_written terms layout first) answer
@@ -52,17 +52,17 @@ SchemaAgain = (terms : Terms) (layout : Layout) (first : CheckedSchemaValue) (sc
 
 -- ---- the document
 
--- this is the text of the document, which was checked over the schema as this text
+-- `text` is what is written of the document that was checked over the schema as the text `document`
 abbrev pub IsTextOfWritten : Layout → CheckedSchemaValue → SourceText → SourceText → Type 0
 IsTextOfWritten layout schema document text = WritesDocument layout schema.number document text
 
--- Both documents are equal, places aside, and in every layout the same is written of their texts.
+-- The two documents are equal apart from places, and in every layout the same bytes are written of their texts.
 pub record DocumentsAreSame (schema : CheckedSchemaValue) (document : SourceText) (first : MeantDocument Place) (other : CheckedSchemaValue) (text : SourceText) (again : MeantDocument Place) : Type 0 where
   pub equal : unplaced_document first ≡ unplaced_document again
   pub written : (layout : Layout) (bytes : List ℕ) → WritesDocument layout other.number text bytes ↔ WritesDocument layout schema.number document bytes
 
--- The document of this text is accepted over the schema; the other schema is equal, with the same built in and the same limit, and a
--- number is left for a document over it; and this is the document's text under a plain layout.
+-- The document of this text is accepted over the schema; the other schema is equal, with the same things built in and the same nesting limit, and a
+-- number is left for a document over it; and `text` is what is written of the document, under a plain layout.
 pub record IsWrittenPlainOver (layout : Layout) (schema : CheckedSchemaValue) (document : SourceText) (first : MeantDocument Place) (other : CheckedSchemaValue) (text : SourceText) : Type 0 where
   pub is : IsCheckedDocumentOf schema document first
   pub equal : AreEqual schema.schema other.schema
@@ -71,7 +71,7 @@ pub record IsWrittenPlainOver (layout : Layout) (schema : CheckedSchemaValue) (d
   pub plain : IsPlainLayout layout
   pub written : IsTextOfWritten layout schema document text
 
--- checked over the other schema, it is the same; and it is accepted, unless memory runs out, where the first is accepted for sure
+-- checked over the other schema, the written text is the same document; and if the first document is certain, the only refusal is out of memory
 abbrev pub DocumentAgain : Type 0
 DocumentAgain = (layout : Layout) (schema : CheckedSchemaValue) (document : SourceText) (first : MeantDocument Place) (other : CheckedSchemaValue) (text : SourceText)
     → IsWrittenPlainOver layout schema document first other text → (answer : Result CheckedDocumentValue Refusal) → AnswersCheck other text answer
@@ -79,7 +79,7 @@ DocumentAgain = (layout : Layout) (schema : CheckedSchemaValue) (document : Sour
 
 -- ---- the pair
 
--- The document is accepted for sure over the schema of these texts, on these terms; no text has the number of what is built in.
+-- This is the schema of these texts, on these terms; the pair of them and the document is certain; no text has the number of what is built in.
 pub record IsCertainPair (terms : Terms) (schema : CheckedSchemaValue) (document : SourceText) (schemas : List SourceText) : Type 0 where
   pub is : IsCheckedSchemaOf terms schemas schema
   pub certain : IsCertain terms schemas document
@@ -93,15 +93,15 @@ PairAgain = (terms : Terms) (schema : CheckedSchemaValue) (document : SourceText
 
 -- ---- what is put out
 
--- A run accepted its texts, under a plain layout; and the readers of another tell the two texts that it put out.
+-- A run accepted its texts, under a plain layout; and the readers of another run have the two texts that the first run put out.
 pub record ReadsWhatWasPut (nesting : ℕ) (layout : Layout) (first again : RunValue) : Type 0 where
   pub answers : AnswersRun (first_terms nesting) layout first (Ok outcome.Accepted)
   pub plain : IsPlainLayout layout
   pub schema : again.texts ≡ as_lines layout answers.answers.1.written_schema ∷ []
   pub document : again.text ≡ as_lines layout answers.answers.1.written_document
 
--- under the same limit and layout the other puts out the same bytes where it accepts; and where the texts of the first are accepted
--- for sure, it accepts, unless memory runs out or a device fails
+-- under the same limit and layout the other run puts out the same bytes, if it accepts; and if the texts of the first run are certain, the other
+-- accepts, unless memory runs out or a device fails
 abbrev pub RunAgain : Type 0
 RunAgain = (nesting : ℕ) (layout : Layout) (first again : RunValue) → ReadsWhatWasPut nesting layout first again
     → (answer : Result Outcome RunFault) → AnswersRun (first_terms nesting) layout again answer

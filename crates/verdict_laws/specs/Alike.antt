@@ -26,12 +26,12 @@ VerdictsAgree Accepted (Refused list) = ⊥
 VerdictsAgree (Refused list) Accepted = ⊥
 VerdictsAgree (Refused list) (Refused other) = Unit {0}
 
--- The pair passes no bound: a number is left for each text, and what is accepted is accepted for sure.
+-- The pair passes no bound: a number is left for each text, and if the pair is accepted, it is certain.
 pub record PassesNoBound (terms : Terms) (schemas : List SourceText) (document : SourceText) : Type 0 where
   pub numbered : LeaveNumber terms schemas
   pub certain : IsAccepted terms schemas document → IsCertain terms schemas document
 
--- where neither pair passes a bound, and memory suffices for both, the verdicts are the same
+-- if neither pair passes a bound, and memory suffices for both, the verdicts are the same
 abbrev pub AreAnsweredAlike : Terms → List SourceText → List SourceText → Type 0
 AreAnsweredAlike terms texts others = (document : SourceText) (one other : Result Verdict CheckError) → AnswersTexts terms texts document one → AnswersTexts terms others document other
     → PassesNoBound terms texts document → PassesNoBound terms others document → IfOk one (λ v. IfOk other (λ w. VerdictsAgree v w))
@@ -44,25 +44,25 @@ VerdictsOfCut = (terms : Terms) (texts others : List SourceText) → AreCut term
 
 -- ---- schemas
 
--- Documents are judged over equal schemas, with the same built in, within the same limit; and what is written are the same definitions,
--- in some order.
+-- The schemas over which documents are judged are equal, with the same things built in and the same nesting limit; and the same definitions are
+-- written, in some order.
 pub record AreRearrangedSchemas (a b : CheckedSchemaValue) : Type 0 where
   pub equal : AreEqual a.schema b.schema
   pub nesting : a.nesting ≡ b.nesting
   pub written : IsPermuted a.written b.written
 
--- Documents are judged so, and the same is written, in every layout.
+-- The schemas over which documents are judged are equal in the same sense, and the same text is written in every layout.
 pub record AreCutSchemas (a b : CheckedSchemaValue) : Type 0 where
   pub equal : AreEqual a.schema b.schema
   pub nesting : a.nesting ≡ b.nesting
   pub written : (layout : Layout) → layout_text layout a.written ≡ layout_text layout b.written
 
--- Two checkers on the same terms, whose texts are related so.
+-- Two checkers on the same terms, whose texts are related by `Same`.
 pub record AreOfTexts (Same : Terms → List SourceText → List SourceText → Type 0) (one other : CheckerValue) : Type 0 where
   pub terms : one.terms ≡ other.terms
   pub texts : Same one.terms one.texts other.texts
 
--- The checkers run, there is a number for each text, and the texts of the first are accepted for sure.
+-- Neither checker has failed, there is a number for each text, and the texts of the first are certain.
 pub record FirstIsCertain (one other : CheckerValue) : Type 0 where
   pub runs : one.failed ≡ false
   pub other_runs : other.failed ≡ false
@@ -70,7 +70,7 @@ pub record FirstIsCertain (one other : CheckerValue) : Type 0 where
   pub other_numbered : TextsHaveNumbers other.terms other.texts
   pub certain : AreSchemasCertain one.terms one.texts
 
--- their schemas are the same; and where the texts of one are accepted for sure, memory alone can keep the other from its schema
+-- the schemas of the two checkers are related by `Same`; and if the texts of the first are certain, the only refusal of the second is out of memory
 abbrev pub FinishAlike : (CheckedSchemaValue → CheckedSchemaValue → Type 0) → CheckerValue → CheckerValue → Type 0
 FinishAlike Same one other = (a b : Result CheckedSchemaValue Refusal) → AnswersFinish one a → AnswersFinish other b
     → (IfOk a (λ s. IfOk b (λ t. Same s t))) × (FirstIsCertain one other → IfErr b (λ r. r ≡ refusal.Memory))
@@ -83,13 +83,13 @@ SchemasOfCut = (one other : CheckerValue) → AreOfTexts AreCut one other → Fi
 
 -- ---- documents over equal schemas
 
--- A number is left for a document over both, and what is accepted over the second is accepted for sure.
+-- A number is left for a document over either schema, and if the document is accepted over the second, it is certain.
 pub record SecondPassesNoBound (a b : CheckedSchemaValue) (document : SourceText) : Type 0 where
   pub numbered : IsNumber a.number
   pub other_numbered : IsNumber b.number
   pub certain : IsDocumentAccepted b.schema b.nesting b.number document → IsDocumentCertain b.schema b.nesting b.number document
 
--- what is accepted over one is accepted over the other, unless memory runs out
+-- a document that is accepted over the first schema is accepted over the second, unless memory runs out
 abbrev pub DocumentsOverEqual : Type 0
 DocumentsOverEqual = (a b : CheckedSchemaValue) → AreEqual a.schema b.schema → a.nesting ≡ b.nesting → (document : SourceText) → SecondPassesNoBound a b document
     → (one other : Result CheckedDocumentValue Refusal) → AnswersCheck a document one → AnswersCheck b document other

@@ -25,14 +25,14 @@ pub record AnswersTexts (terms : Terms) (schemas : List SourceText) (document : 
   pub verdict : IfOk answer (IsVerdict terms schemas document)
   pub complete : IsCertain terms schemas document → (answer ≡ Ok Accepted) ⊎ (answer ≡ Err Memory)
 
--- `Checker::finish`, of what contracts see of the checked schema
+-- `Checker::finish`, with the checked schema as contracts see it
 pub record AnswersFinish (checker : CheckerValue) (answer : Result CheckedSchemaValue Refusal) : Type 0 where
   pub schema : IfOk answer (IsCheckedSchemaOf checker.terms checker.texts)
   pub running : OnOk answer (checker.failed ≡ false)
   pub refused : IfErr answer (IsFinishRefusal checker)
   pub complete : IfErr answer (λ r. checker.failed ≡ false → AreSchemasCertain checker.terms checker.texts → r ≡ refusal.Memory)
 
--- `CheckedSchema::check`, of what contracts see of the checked document
+-- `CheckedSchema::check`, with the checked document as contracts see it
 pub record AnswersCheck (over : CheckedSchemaValue) (given : SourceText) (answer : Result CheckedDocumentValue Refusal) : Type 0 where
   pub schema : IfOk answer (λ d. d.schema ≡ over)
   pub text : IfOk answer (λ d. d.text ≡ given)
@@ -46,12 +46,12 @@ pub record RunValue : Type 0 where
   pub text : SourceText
   pub put : List ℕ
 
--- what is out where a run ends in a fault: after `Writer(n)` the first `n` bytes of an answer that has more, else nothing
+-- what was put out when a run ends in a fault: after `Writer(n)` the first `n` bytes of an answer that has more, else nothing
 abbrev pub IsPutAt : Terms → Layout → RunValue → RunFault → Type 0
 IsPutAt terms layout run (run_fault.Writer count) = (bytes : List ℕ) × (Answer terms layout run.texts run.text bytes × ((count < length bytes) × (run.put ≡ take count bytes)))
 IsPutAt terms layout run _ = run.put ≡ []
 
--- `run`, under this layout, of devices that tell their bytes: what it says of texts and bytes
+-- `run`, under this layout, of devices that tell their bytes: what its contract says of texts and bytes
 pub record AnswersRun (terms : Terms) (layout : Layout) (run : RunValue) (answer : Result Outcome RunFault) : Type 0 where
   pub answers : IfOk answer (λ outcome. BytesOf terms layout outcome run.texts run.text run.put)
   pub fault : IfErr answer (IsPutAt terms layout run)

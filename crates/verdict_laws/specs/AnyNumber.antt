@@ -9,7 +9,7 @@ use Rattle.verdict_definitions.specs.Judge.{JudgeDocument, IsDocumentAccepted, I
 use Rattle.verdict_definitions.specs.Out.{Layout}
 use Rattle.verdict_definitions.specs.Answer.{WritesDocument}
 
--- the number is left for a text
+-- a text can have this number
 abbrev pub IsNumber : ℕ → Type 0
 IsNumber number = PassesNumbers number → ⊥
 
@@ -17,12 +17,12 @@ IsNumber number = PassesNumbers number → ⊥
 abbrev pub TextsHaveOneTree : Type 0
 TextsHaveOneTree = (number : ℕ) (text : SourceText) (tree other : Tree) → ReadsText number text tree → ReadsText number text other → tree ≡ other
 
--- a text that is read under one number is read under each other one, as the same definitions, places aside
+-- a text that is read under one number is read under every other, as the same definitions apart from places
 abbrev pub TextsAreReadAlike : Type 0
 TextsAreReadAlike = (i j : ℕ) (text : SourceText) (tree : Tree) → ReadsText i text tree
     → (other : Tree) × (ReadsText j text other × (unplaced_document tree ≡ unplaced_document other))
 
--- and the same is written of it
+-- the same is written of a document under any two numbers
 abbrev pub DocumentsAreWrittenAlike : Type 0
 DocumentsAreWrittenAlike = (layout : Layout) (i j : ℕ) (document : SourceText) (bytes : List ℕ) → WritesDocument layout i document bytes ↔ WritesDocument layout j document bytes
 
@@ -32,12 +32,12 @@ DocumentsAreWrittenAlike = (layout : Layout) (i j : ℕ) (document : SourceText)
 abbrev pub EqualSchemasJudgeAlike : Type 0
 EqualSchemasJudgeAlike = (a b : SchemaTree Place) → AreEqual a b → (i j : ℕ) (document : SourceText) → JudgeDocument a i document ↔ JudgeDocument b j document
 
--- where both numbers are left for a text, it is accepted over both or over neither
+-- if a text can have both numbers, it is accepted over both schemas or over neither
 abbrev pub EqualSchemasAcceptAlike : Type 0
 EqualSchemasAcceptAlike = (a b : SchemaTree Place) → AreEqual a b → (nesting i j : ℕ) → IsNumber i → IsNumber j → (document : SourceText)
     → IsDocumentAccepted a nesting i document ↔ IsDocumentAccepted b nesting j document
 
--- and accepted for sure over both or over neither
+-- if a text can have both numbers, it is certain over both schemas or over neither
 abbrev pub EqualSchemasAcceptForSureAlike : Type 0
 EqualSchemasAcceptForSureAlike = (a b : SchemaTree Place) → AreEqual a b → (nesting i j : ℕ) → IsNumber i → IsNumber j → (document : SourceText)
     → IsDocumentCertain a nesting i document ↔ IsDocumentCertain b nesting j document

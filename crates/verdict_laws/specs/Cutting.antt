@@ -1,4 +1,4 @@
--- One list of definitions, read from texts that are cut in two ways: each definition is the same, places aside (GraphQL, October 2021,
+-- One list of definitions, read from texts that are cut in two ways: each definition is the same, apart from places (GraphQL, October 2021,
 -- section 3).
 use Rattle.std.specs.Prelude.{◌≡◌, ℕ, List, map, option_map}
 use Rattle.graphql_names.specs.Placed.{Place, unplaced_text, unplaced_node}
@@ -8,7 +8,7 @@ use Rattle.schema_fold.specs.in_definitions.DefinitionTree.{unplaced_document}
 use Rattle.schema_fold.specs.in_components.Given.{Given}
 use Rattle.schema_fold.specs.in_components.Names.{Entries}
 use Rattle.schema_fold.specs.in_schema_types.SchemaTree.{SchemaType}
-use Rattle.schema_fold.specs.Listed.{Definitions}
+use Rattle.schema_fold.specs.NumberedDefinition.{Definitions}
 use Rattle.schema_fold.specs.Fold.{folded_types}
 use Rattle.verdict_laws.specs.Table.{AreOwn}
 use Rattle.verdict_laws.specs.Twice.{WrittenOf}
@@ -19,7 +19,7 @@ CutIsRearranged = (ds es : Definitions) → unplaced_document ds ≡ unplaced_do
 
 -- ---- what is folded
 
--- what was given, and the number of the extension that gave it
+-- what was given, and the number of the extension that gave it, without places
 abbrev pub unplaced_given : {A B : Type 0} → (A → B) → Given Place A → Given (Unit {0}) B
 unplaced_given f g = record { extension = option_map (λ e. record { number = e.number; place = tt }) g.extension; it = f g.it }
 
@@ -56,6 +56,6 @@ abbrev pub CutWritesAlike : Type 0
 CutWritesAlike = (built_in : Definitions) (i j : ℕ) (ds es : Definitions) → unplaced_document ds ≡ unplaced_document es → AreOwn ds → AreOwn es
     → unplaced_document (WrittenOf built_in i ds) ≡ unplaced_document (WrittenOf built_in j es)
 
--- the numbers of extensions play no part
+-- the numbers of extensions do not change what is written
 abbrev pub NumbersAreNotWritten : Type 0
 NumbersAreNotWritten = (built_in : Definitions) (i j : ℕ) (ds : Definitions) → WrittenOf built_in i ds ≡ WrittenOf built_in j ds

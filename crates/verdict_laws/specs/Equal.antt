@@ -1,9 +1,9 @@
--- What is written tells what was checked: checked schemas of which one text is written are equal, and so are documents of which one
--- text is written, over equal schemas (GraphQL, October 2021, sections 2 and 3).
+-- What is written determines what was checked: checked schemas with the same written text are equal, and so are documents with the same written text,
+-- over equal schemas (GraphQL, October 2021, sections 2 and 3).
 use Rattle.std.specs.Prelude.{◌≡◌, ◌≢◌, ℕ, List}
 use Rattle.graphql_names.specs.Placed.{Place}
-use Rattle.document_meaning.specs.MeantTree.{MeantDocument}
-use Rattle.document_meaning.specs.Unplaced.{unplaced_document}
+use Rattle.spec_document.specs.MeantTree.{MeantDocument}
+use Rattle.spec_document.specs.Unplaced.{unplaced_document}
 use Rattle.rule_definitions.specs.Laws.{AreEqual}
 use Rattle.verdict_definitions.specs.Texts.{SourceText, Terms}
 use Rattle.verdict_definitions.specs.Out.{Layout, layout_text}
@@ -19,12 +19,12 @@ pub record IsOfTextsElsewhere (schema : CheckedSchemaValue) : Type 0 where
   pub is : IsCheckedSchemaOf terms schemas schema
   pub elsewhere : terms.first_text ≢ 0
 
--- where one text is written of two, under a plain layout, they are equal, with the same built in
+-- schemas with the same written text, under a plain layout, are equal, with the same things built in
 abbrev pub SchemasOfOneText : Type 0
 SchemasOfOneText = (a b : CheckedSchemaValue) → IsOfTextsElsewhere a → IsOfTextsElsewhere b → (layout : Layout) → IsPlainLayout layout
     → layout_text layout a.written ≡ layout_text layout b.written → AreEqual a.schema b.schema
 
--- where one text is written of two documents, each accepted over one of two equal schemas, they are equal, places aside
+-- documents with the same written text, under a plain layout, each accepted over one of two equal schemas, are equal apart from places
 abbrev pub DocumentsOfOneText : Type 0
 DocumentsOfOneText = (schema other : CheckedSchemaValue) (document text : SourceText) (first second : MeantDocument Place)
     → IsCheckedDocumentOf schema document first → IsCheckedDocumentOf other text second → AreEqual schema.schema other.schema → (layout : Layout) → IsPlainLayout layout

@@ -1,14 +1,14 @@
--- Lists are rearranged where one is a permutation of the other that keeps the order of what defines, or extends, the same (GraphQL,
+-- Two lists are rearranged if one is a permutation of the other that keeps the order of definitions, and of extensions, of the same thing (GraphQL,
 -- October 2021, sections 2.2 and 3).
 use Rattle.std.specs.Prelude.{◌≡◌, ℕ, false, ◌&&◌, List, [], ◌∷◌, ◌++◌}
 use Rattle.std.specs.List.{list_any, AllByRecursion}
 use Rattle.graphql_names.specs.Placed.{Place}
 use Rattle.schema_fold.specs.in_definitions.DefinitionTree.{DefinitionTree, unplaced_definition}
 use Rattle.schema_fold.specs.in_definitions.Queries.{is_executable}
-use Rattle.schema_fold.specs.Listed.{Definitions}
+use Rattle.schema_fold.specs.NumberedDefinition.{Definitions}
 use Rattle.verdict_laws.specs.RearrangedLists.{defines_type, extends_type, defines_directive, defines_schema, is_schema_extension, IsRearranged}
 
--- two definitions that do not define, or extend, the same
+-- two definitions that do not define, or extend, the same thing
 pub record CanPass (d e : DefinitionTree Place) : Type 0 where
   pub types : (n : List ℕ) → (defines_type n d && defines_type n e) ≡ false
   pub extensions : (n : List ℕ) → (extends_type n d && extends_type n e) ≡ false
@@ -16,8 +16,7 @@ pub record CanPass (d e : DefinitionTree Place) : Type 0 where
   pub schemas : (defines_schema d && defines_schema e) ≡ false
   pub schema_extensions : (is_schema_extension d && is_schema_extension e) ≡ false
 
--- The definitions of the second list are taken out of the first one, one after the other: each time one that may pass all that still
--- stand before it. Places aside.
+-- The definitions of the second list, in order, are taken out of the first list: each can pass all that are still before it. Places are ignored.
 pub data IsPermuted : Definitions → Definitions → Type 0 where
   nothing : IsPermuted [] []
   next : (front : Definitions) (d : DefinitionTree Place) (back : Definitions) (e : DefinitionTree Place) (es : Definitions) → AllByRecursion (λ f. CanPass f d) front → unplaced_definition d ≡ unplaced_definition e
@@ -26,7 +25,7 @@ pub data IsPermuted : Definitions → Definitions → Type 0 where
 abbrev pub PermutedIsRearranged : Type 0
 PermutedIsRearranged = (ds es : Definitions) → IsPermuted ds es → IsRearranged ds es
 
--- and there is no other way to rearrange lists without operations and fragments, of which only whether there are some counts
+-- lists without operations and fragments are rearranged in no other way; of operations and fragments only whether there are any counts
 abbrev pub RearrangedIsPermuted : Type 0
 RearrangedIsPermuted = (ds es : Definitions) → list_any is_executable ds ≡ false → IsRearranged ds es → IsPermuted ds es
 

@@ -1,5 +1,5 @@
--- The law of rearranging and the law of cutting: schema texts with the same definitions, in an order that is the same for each sort, get
--- the same verdict, and so does each document over them (GraphQL, October 2021, sections 2.2, 3 and 5).
+-- The law of rearranging and the law of cutting: schema texts with the same definitions, in the same order within each sort, get the same verdict,
+-- and so does each document over them (GraphQL, October 2021, sections 2.2, 3 and 5).
 use Rattle.std.specs.Prelude.{◌≡◌, ◌≢◌, ℕ, ◌<◌, ◌^◌, List, ◌↔◌}
 use Rattle.tree_definitions.specs.DefinitionTree.{unplaced_document}
 use Rattle.rule_definitions.specs.Laws.{AreEqual}
@@ -14,8 +14,7 @@ use Rattle.verdict_laws.specs.AnyNumber.{IsNumber}
 
 -- ---- the premises
 
--- Both lists of schema texts are read, counted from a number other than that of what is built in, and in this sense their definitions
--- are the same.
+-- Both lists of schema texts are read, counted from a number other than that of what is built in, and their definitions are related by `Same`.
 pub record AreBothRead (Same : Tree → Tree → Type 0) (terms : Terms) (texts others : List SourceText) : Type 0 where
   pub elsewhere : terms.first_text ≢ 0
   pub trees : List Tree
@@ -24,11 +23,11 @@ pub record AreBothRead (Same : Tree → Tree → Type 0) (terms : Terms) (texts 
   pub other_read : ReadsAll terms.first_text others other_trees
   pub same : Same (all_definitions trees) (all_definitions other_trees)
 
--- the same definitions, in an order that is the same for each sort
+-- the same definitions, in the same order within each sort
 abbrev pub AreRearranged : Terms → List SourceText → List SourceText → Type 0
 AreRearranged = AreBothRead IsRearranged
 
--- one list of definitions, cut into texts in two ways: a text that is read has a definition
+-- one list of definitions, cut into texts in two ways: each text that is read has at least one definition
 abbrev pub AreCut : Terms → List SourceText → List SourceText → Type 0
 AreCut = AreBothRead (λ ds es. unplaced_document ds ≡ unplaced_document es)
 
@@ -36,20 +35,20 @@ AreCut = AreBothRead (λ ds es. unplaced_document ds ≡ unplaced_document es)
 abbrev pub TextsHaveNumbers : Terms → List SourceText → Type 0
 TextsHaveNumbers terms texts = document_number terms texts < 2 ^ 64
 
--- and behind it a number is left for a document
+-- and a number is left for a document after them
 abbrev pub LeaveNumber : Terms → List SourceText → Type 0
 LeaveNumber terms texts = IsNumber (document_number terms texts)
 
 -- ---- what is the same
 
 module _ (terms : Terms) (texts others : List SourceText) where
-  -- The verdict on the schema texts and, over them, on every document; and documents are judged over equal schemas.
+  -- The verdict is the same on the schema texts and, over them, on every document; and documents are judged over equal schemas.
   pub record AreJudgedAlike : Type 0 where
     pub schemas : JudgeSchemas terms texts ↔ JudgeSchemas terms others
     pub at_hand : (a : JudgeSchemas terms texts) (b : JudgeSchemas terms others) → AreEqual (schema_at_hand terms a.trees) (schema_at_hand terms b.trees)
     pub pairs : (document : SourceText) → Judge terms texts document ↔ Judge terms others document
 
-  -- Which schema texts, and which pairs, are accepted, and which are for sure, where there are numbers.
+  -- One list of schema texts is accepted, or certain, exactly when the other is, and so is each pair, if both have numbers.
   pub record AreAcceptedAlike : Type 0 where
     pub schemas : TextsHaveNumbers terms texts → TextsHaveNumbers terms others → AreSchemasAccepted terms texts ↔ AreSchemasAccepted terms others
     pub schemas_for_sure : TextsHaveNumbers terms texts → TextsHaveNumbers terms others → AreSchemasCertain terms texts ↔ AreSchemasCertain terms others
@@ -58,7 +57,7 @@ module _ (terms : Terms) (texts others : List SourceText) where
 
 -- ---- the laws
 
--- what is written of the schemas are the same definitions, in some order
+-- the verdicts are the same, and the same definitions are written of both schemas, in some order
 pub record RearrangingIsFree (terms : Terms) (texts others : List SourceText) (same : AreRearranged terms texts others) : Type 0 where
   pub judged : AreJudgedAlike terms texts others
   pub accepted : AreAcceptedAlike terms texts others
@@ -67,8 +66,8 @@ pub record RearrangingIsFree (terms : Terms) (texts others : List SourceText) (s
 abbrev pub LawOfRearranging : Type 0
 LawOfRearranging = (terms : Terms) (texts others : List SourceText) (same : AreRearranged terms texts others) → RearrangingIsFree terms texts others same
 
--- the same is written of the schemas, in the same order: in every layout the same text; and of every accepted pair the same bytes
--- are put out
+-- the verdicts are the same; the same definitions are written of both schemas, in the same order: the same text in every layout; and the same bytes
+-- are output for every accepted pair
 pub record CuttingIsFree (terms : Terms) (texts others : List SourceText) (same : AreCut terms texts others) : Type 0 where
   pub judged : AreJudgedAlike terms texts others
   pub accepted : AreAcceptedAlike terms texts others

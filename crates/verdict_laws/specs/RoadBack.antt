@@ -1,13 +1,13 @@
--- The road back: what is written of an accepted pair of texts, under any plain layout, is read back equal, is accepted on the same
--- terms, and is written as it was before (GraphQL, October 2021, sections 2, 3 and 5).
+-- The road back: what is written of an accepted pair of texts, under any plain layout, is read back equal, is accepted on the same terms, and is
+-- written unchanged (GraphQL, October 2021, sections 2, 3 and 5).
 use Rattle.std.specs.Prelude.{◌≡◌, ◌≢◌, ◌↔◌, ◌⊎◌, ℕ, true, List, [], ◌∷◌}
 use Rattle.graphql_names.specs.Placed.{Place}
-use Rattle.read_again.specs.WellFormed.{is_white_prefix}
+use Rattle.round_trip.specs.WellFormed.{is_white_prefix}
 use Rattle.tree_definitions.specs.DefinitionTree.{unplaced_document}
 use Rattle.schema_types.specs.SchemaTree.{SchemaTree}
 use Rattle.rule_definitions.specs.Laws.{AreEqual}
-use Rattle.document_meaning.specs.MeantTree.{MeantDocument}
-use Rattle.document_meaning.specs.Unplaced as meant
+use Rattle.spec_document.specs.MeantTree.{MeantDocument}
+use Rattle.spec_document.specs.Unplaced as meant
 use Rattle.verdict_definitions.specs.Texts.{SourceText, Tree, Terms, document_number}
 use Rattle.verdict_definitions.specs.Meaning.{all_definitions, schema_of, schema_at_hand, document_over}
 use Rattle.verdict_definitions.specs.Judge.{AreSchemasAccepted, IsDocumentAccepted, IsAccepted, PassesNoDocumentBound, IsCertain}
@@ -15,30 +15,30 @@ use Rattle.verdict_definitions.specs.Out.{Out, OutDoc, Layout, layout_text, as_l
 use Rattle.verdict_definitions.specs.Answer.{AcceptedBytes}
 use Rattle.verdict_laws.specs.AnyNumber.{IsNumber}
 
--- all stands on one line, or spaces and tabs alone begin the lines
+-- all is on one line, or lines begin with spaces and tabs only
 abbrev pub IsPlainLayout : Layout → Type 0
 IsPlainLayout layout = is_white_prefix layout ≡ true
 
--- the text of these definitions under the layout, or the same with the line feed that is put out behind it
+-- the text of these definitions under the layout, or that text with the line feed that is output after it
 abbrev pub IsLaidOutText : Layout → Tree → SourceText → Type 0
 IsLaidOutText layout ds text = (text ≡ layout_text layout ds) ⊎ (text ≡ as_lines layout (layout_text layout ds))
 
--- two trees are the same, places aside
+-- two trees are the same, apart from places
 abbrev pub IsSameTree : Tree → Tree → Type 0
 IsSameTree a b = unplaced_document a ≡ unplaced_document b
 
--- two documents with their meaning are equal: operations and fragments in order, places aside
+-- two documents with their meaning are equal: operations and fragments in order, apart from places
 abbrev pub IsSameDocument : MeantDocument Place → MeantDocument Place → Type 0
 IsSameDocument a b = meant.unplaced_document a ≡ meant.unplaced_document b
 
--- what is written of both is the same in every layout
+-- the same is written of both in every layout
 abbrev pub IsWrittenAlike : Tree → Tree → Type 0
 IsWrittenAlike a b = (layout : Layout) → layout_text layout a ≡ layout_text layout b
 
 -- ---- the schema
 
--- The written text is read as what was written, places aside; it is accepted on the same terms, and so passes no bound; the schema
--- that it folds to is equal, with the same built in, and so is the one at hand; and what is written of it is the same.
+-- The written text is read as what was written, apart from places; it is accepted on the same terms, and so passes no bound; the schema that it folds
+-- to is equal, with the same things built in, and so is the schema for documents; and the same is written of it.
 pub record SchemaLeadsBack (terms : Terms) (schemas : List SourceText) (first : AreSchemasAccepted terms schemas) (text : SourceText) : Type 0 where
   pub accepted : AreSchemasAccepted terms (text ∷ [])
   pub read_back : IsSameTree (all_definitions accepted.judged.trees) (Out terms first.judged.trees)
@@ -51,11 +51,11 @@ abbrev pub SchemaRoadBack : Type 0
 SchemaRoadBack = (terms : Terms) (schemas : List SourceText) → terms.first_text ≢ 0 → (first : AreSchemasAccepted terms schemas)
     → (layout : Layout) → IsPlainLayout layout → (text : SourceText) → IsLaidOutText layout (Out terms first.judged.trees) text → SchemaLeadsBack terms schemas first text
 
--- ---- the document, over the schema at hand
+-- ---- the document, over the schema for documents
 
--- Over the other schema, and under the other number, the written text is accepted with the same limit, and so passes no bound of
--- brackets; it is read as what was written, places aside; what typing keeps of it is an equal document; it passes no bound on
--- documents exactly where the first passes none; and what is written of it is the same.
+-- Over the other schema, and under the other number, the written text is accepted with the same limit, and so passes no bound on brackets; it is read
+-- as what was written, apart from places; what typing keeps of it is an equal document; it passes no bound on documents exactly when the first passes
+-- none; and the same is written of it.
 pub record DocumentLeadsBack (nesting : ℕ) (schema other : SchemaTree Place) (number again : ℕ) (document : SourceText) (first : IsDocumentAccepted schema nesting number document) (text : SourceText) : Type 0 where
   pub accepted : IsDocumentAccepted other nesting again text
   pub read_back : IsSameTree accepted.judged.tree (OutDoc first.judged.tree)
@@ -63,7 +63,7 @@ pub record DocumentLeadsBack (nesting : ℕ) (schema other : SchemaTree Place) (
   pub bounds : PassesNoDocumentBound schema first.judged.tree ↔ PassesNoDocumentBound other accepted.judged.tree
   pub written : IsWrittenAlike (OutDoc accepted.judged.tree) (OutDoc first.judged.tree)
 
--- the other schema is equal, with the same built in, and the other number is left for a text
+-- the other schema is equal, with the same things built in, and a text can have the other number
 abbrev pub DocumentRoadBack : Type 0
 DocumentRoadBack = (schema other : SchemaTree Place) → AreEqual schema other → (nesting number again : ℕ) → IsNumber again
     → (document : SourceText) (first : IsDocumentAccepted schema nesting number document) → (layout : Layout) → IsPlainLayout layout
@@ -71,9 +71,9 @@ DocumentRoadBack = (schema other : SchemaTree Place) → AreEqual schema other �
 
 -- ---- the pair
 
--- The written pair is accepted on the same terms; its schema leads back, and so does its document, over the schemas at hand and
--- under the numbers behind their texts; it passes no bound exactly where the first passes none; and in every layout the same
--- bytes are put out for both.
+-- The written pair is accepted on the same terms; `SchemaLeadsBack` holds of its schema, and `DocumentLeadsBack` of its document, over the schemas
+-- for documents and under the numbers after their texts; it is certain exactly when the first is; and in every layout the same bytes are output for
+-- both.
 pub record PairLeadsBack (terms : Terms) (schemas : List SourceText) (document : SourceText) (first : IsAccepted terms schemas document) (schema_written document_written : SourceText) : Type 0 where
   pub accepted : IsAccepted terms (schema_written ∷ []) document_written
   pub schema : SchemaLeadsBack terms schemas first.schema schema_written
@@ -89,7 +89,7 @@ PairRoadBack = (terms : Terms) (schemas : List SourceText) (document : SourceTex
     → (schema_written document_written : SourceText) → IsLaidOutText layout (Out terms first.schema.judged.trees) schema_written → IsLaidOutText next (OutDoc first.over.judged.tree) document_written
     → PairLeadsBack terms schemas document first schema_written document_written
 
--- the two texts that are put out for an accepted pair, put in again, have the same bytes put out
+-- the two texts that are output for an accepted pair, given as input, have the same output
 abbrev pub AnswerRoadBack : Type 0
 AnswerRoadBack = (terms : Terms) (schemas : List SourceText) (document : SourceText) → terms.first_text ≢ 0 → (layout : Layout) → IsPlainLayout layout
     → (bytes : List ℕ) (first : AcceptedBytes terms layout schemas document bytes)

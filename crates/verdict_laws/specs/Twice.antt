@@ -1,4 +1,4 @@
--- A list that is written, folded and written again is as it was after the first time, nests no deeper, and folds to an equal schema.
+-- A list that is written, folded and written again is the same as after the first time, nests no deeper, and folds to an equal schema.
 use Rattle.std.specs.Prelude.{◌≡◌, ℕ, ◌≤◌, ◌++◌, true}
 use Rattle.std.specs.List.{list_all}
 use Rattle.tree_definitions.specs.Writable.{definition_writable, document_writable}
@@ -6,13 +6,13 @@ use Rattle.schema_fold.specs.SchemaFold.{schema_is_defined}
 use Rattle.schema_types.specs.Out.{written}
 use Rattle.schema_types.specs.Plain.{plain}
 use Rattle.schema_built_in.specs.Table.{built_in_definitions}
-use Rattle.schema_fold.specs.Listed.{Definitions}
+use Rattle.schema_fold.specs.NumberedDefinition.{Definitions}
 use Rattle.schema_fold.specs.Fold.{fold}
 use Rattle.schema_fold.specs.BuildErrors.{FoldingRules}
 use Rattle.verdict_laws.specs.Table.{IsTable, HasNoQuery, AreOwn}
-use Rattle.read_again.specs.TreeDepth.{document_depth}
+use Rattle.round_trip.specs.TreeDepth.{document_depth}
 
--- what is written of a list, beside the table, where extensions are numbered from `first`
+-- what is written of a list that is folded with the table, where extensions are counted from `first`
 abbrev pub WrittenOf : Definitions → ℕ → Definitions → Definitions
 WrittenOf built_in first texts = written (fold built_in first texts)
 
@@ -20,7 +20,7 @@ abbrev pub WrittenTwice : Type 0
 WrittenTwice = (built_in : Definitions) (first again_first : ℕ) (texts : Definitions) → IsTable built_in → AreOwn texts → FoldingRules built_in first texts
     → WrittenOf built_in again_first (WrittenOf built_in first texts) ≡ WrittenOf built_in first texts
 
--- the same of the repository's table
+-- the same for the repository's table
 abbrev pub WrittenTwiceBesideTheTable : Type 0
 WrittenTwiceBesideTheTable = (first again_first : ℕ) (texts : Definitions) → AreOwn texts → FoldingRules built_in_definitions first texts
     → WrittenOf built_in_definitions again_first (WrittenOf built_in_definitions first texts) ≡ WrittenOf built_in_definitions first texts
@@ -33,12 +33,12 @@ abbrev pub FoldsToEqual : Type 0
 FoldsToEqual = (built_in : Definitions) (first again_first : ℕ) (texts : Definitions) → IsTable built_in → AreOwn texts → FoldingRules built_in first texts
     → plain (fold built_in again_first (WrittenOf built_in first texts)) ≡ plain (fold built_in first texts)
 
--- no folding rule is broken by what is written: no orphan, no second definition, no repeated component or root
+-- what is written breaks no folding rule: no extension without a definition, no second definition, no repeated component or root
 abbrev pub AcceptedAgain : Type 0
 AcceptedAgain = (built_in : Definitions) (first again_first : ℕ) (texts : Definitions) → IsTable built_in → AreOwn texts → FoldingRules built_in first texts
     → FoldingRules built_in again_first (WrittenOf built_in first texts)
 
--- where each definition can be written, and a schema is defined or implied, what is written is a document that can be written
+-- The premises of `WrittenIsWritable`: each definition can be written, a schema is defined or implied, and no folding rule is broken.
 pub record CanBeWritten (built_in : Definitions) (first : ℕ) (texts : Definitions) : Type 0 where
   pub table : IsTable built_in
   pub no_query : HasNoQuery built_in

@@ -1,4 +1,4 @@
--- Private: leads to `WrittenTwice`. Definitions written whole: what stands in a list of definitions, in the order of the write-out. No numbers, and nothing is folded.
+-- Private: leads to `WrittenTwice`. Definitions written whole: those of a list, in the order in which they are written, without numbers and folding.
 use Rattle.std.specs.Prelude.{Bool, not, List, [], ◌∷◌, ◌++◌, map, if◌then◌else◌}
 use Rattle.std.specs.List.{flat_map}
 use Rattle.std.specs.Option.{option_map_or}
@@ -8,7 +8,7 @@ use Rattle.tree_definitions.specs.DefinitionTree.{DefinitionTree}
 use Rattle.tree_definitions.specs.Queries.{definition_place}
 use Rattle.schema_types.specs.TypeParts.{TypeParts, TypeDefinition, type_extension_here, definition_by, extension_by}
 use Rattle.schema_types.specs.Out.{is_empty}
-use Rattle.schema_fold.specs.Listed.{Definitions}
+use Rattle.schema_fold.specs.NumberedDefinition.{Definitions}
 use Rattle.schema_fold.specs.Components.{go_together}
 use Rattle.verdict_laws.specs.Arranged.{arranged}
 
@@ -16,14 +16,14 @@ use Rattle.verdict_laws.specs.Arranged.{arranged}
 abbrev pub Extension : Type 0
 Extension = Placed Place (TypeParts Place)
 
--- the extension of that type and of its kind that stands here
+-- the extension that is here, if it is one of that type and of its kind
 abbrev pub extension_at : TypeParts Place → DefinitionTree Place → List Extension
 extension_at defined d = option_map_or (λ parts. if go_together defined parts then record { it = parts; place = definition_place d } ∷ [] else []) (type_extension_here d) []
 
 abbrev pub extensions_in : Definitions → TypeParts Place → List Extension
 extensions_in ds defined = flat_map (extension_at defined) ds
 
--- whether an extension gives something: directives, interfaces, fields, members, values, input fields
+-- the classes of extensions: those that give directives, interfaces, fields, members, values, input fields
 abbrev pub classes : List (Extension → Bool)
 classes =
     (λ x. not (is_empty x.it.directives))
@@ -37,10 +37,10 @@ classes =
 abbrev pub whole_definition : TypeDefinition Place → DefinitionTree Place
 whole_definition t = definition_by t.parts.kind t.place t.description t.parts
 
--- an extension as it stood, but its name has the place of the definition's name
+-- an extension unchanged, but its name has the place of the definition's name
 abbrev pub whole_extension : TypeDefinition Place → Extension → DefinitionTree Place
 whole_extension t x = extension_by t.parts.kind x.place (record x.it { kind = t.parts.kind; name = t.parts.name })
 
--- a type as it stood in the list: its definition, unless it is built in, and then its extensions, arranged
+-- a type of the list: its definition unchanged, unless it is built in, and then its extensions, arranged
 abbrev pub whole_type : Definitions → TypeDefinition Place → List (DefinitionTree Place)
 whole_type ds t = (if is_built_in t.place then [] else whole_definition t ∷ []) ++ map (whole_extension t) (arranged classes (extensions_in ds t.parts))

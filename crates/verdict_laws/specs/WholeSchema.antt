@@ -1,17 +1,17 @@
--- Private: leads to `WrittenTwice`. The schema definition and its extensions written whole: as they stood in the list, but with their roots in order and without the places of those.
+-- Private: leads to `WrittenTwice`. The schema definition and its extensions written whole: unchanged, but their roots are in order and without places.
 use Rattle.std.specs.Prelude.{ℕ, Bool, not, ◌&&◌, List, [], ◌∷◌, ◌++◌, map, None, is_none}
 use Rattle.std.specs.List.{flat_map, filter}
 use Rattle.std.specs.Option.{option_map_or}
 use Rattle.std.specs.Str.{bytes_eq}
 use Rattle.graphql_names.specs.Placed.{Placed, Place, Text}
-use Rattle.schema_components.specs.in_values.OperationQueries.{operation_keyword, default_root_name}
+use Rattle.schema_components.specs.in_operations.OperationQueries.{operation_keyword, default_root_name}
 use Rattle.schema_components.specs.in_operations.in_directives.declared.operation_type.OperationType.{OperationType}
 use Rattle.schema_components.specs.in_operations.in_directives.declared.operation_type.OperationType.TheVariants as operation
 use Rattle.tree_definitions.specs.in_type_members.TypeSystemTree.{SchemaParts}
 use Rattle.tree_definitions.specs.DefinitionTree.{DefinitionTree, Schema, ExtendSchema}
 use Rattle.tree_definitions.specs.Queries.{definition_place}
 use Rattle.schema_types.specs.Out.{is_empty}
-use Rattle.schema_fold.specs.Listed.{Definitions}
+use Rattle.schema_fold.specs.NumberedDefinition.{Definitions}
 use Rattle.schema_fold.specs.SchemaFold.{Root, SchemaGiver, schema_extension_here, schema_base}
 use Rattle.verdict_laws.specs.Arranged.{arranged}
 
@@ -52,11 +52,11 @@ whole_schema_extension x = ExtendSchema x.place (whole_parts x.it)
 abbrev pub whole_schema : Definitions → List (DefinitionTree Place)
 whole_schema ds = whole_base (schema_base ds) ∷ map whole_schema_extension (arranged schema_classes (schema_extensions_in ds))
 
--- at most one root of the operation is given
+-- the names of the roots of the operation that the schema definition, or the implicit one, and the extensions give
 abbrev pub roots_in : OperationType → Definitions → List (Text Place)
 roots_in operation ds = roots_of operation (schema_base ds).parts ++ flat_map (λ x. roots_of operation x.it) (schema_extensions_in ds)
 
--- the roots of an operation are the implicit one, where this says which names are those of objects
+-- the first root of an operation is the implied one, or there is no root and none is implied; `is_object` tells which names are those of objects
 abbrev pub implicit_of : (List ℕ → Bool) → OperationType → List (Text Place) → Bool
 implicit_of is_object operation [] = not (is_object (default_root_name operation))
 implicit_of is_object operation (n ∷ ns) = bytes_eq n.it (default_root_name operation) && is_object (default_root_name operation)

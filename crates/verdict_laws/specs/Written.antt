@@ -1,4 +1,4 @@
--- What an accepted pair is written from can be written (GraphQL, October 2021, appendix B).
+-- What is written of an accepted pair can be written by the grammar (GraphQL, October 2021, appendix B).
 use Rattle.std.specs.Prelude.{◌≡◌, ◌≢◌, ℕ, true, List}
 use Rattle.graphql_names.specs.Placed.{Place}
 use Rattle.tree_definitions.specs.Writable.{document_writable}
@@ -9,12 +9,12 @@ use Rattle.verdict_definitions.specs.Meaning.{meanings_over}
 use Rattle.verdict_definitions.specs.Judge.{AreSchemasAccepted}
 use Rattle.verdict_definitions.specs.Out.{Out, OutDoc}
 
--- of schema texts that are accepted, where none has the number of what is built in
+-- what is written of accepted schema texts, none of which has the number of what is built in
 abbrev pub AcceptedSchemasCanBeWritten : Type 0
 AcceptedSchemasCanBeWritten = (terms : Terms) (schemas : List SourceText) → terms.first_text ≢ 0 → (accepted : AreSchemasAccepted terms schemas)
     → document_writable (Out terms accepted.judged.trees) ≡ true
 
--- of a document that is read and breaks no rule of typing
+-- what is written of a document that is read and breaks no rule of typing
 abbrev pub TypedDocumentsCanBeWritten : Type 0
 TypedDocumentsCanBeWritten = (schema : SchemaTree Place) (number : ℕ) (document : SourceText) (tree : Tree) → ReadsText number document tree
     → TypingRules (meanings_over schema) tree → document_writable (OutDoc tree) ≡ true

@@ -1,4 +1,4 @@
-//! What the calls of the checker answer is what the laws are about.
+//! What the calls of the checker answer: the laws are about these calls.
 
 ghost use Rattle.std.specs.Prelude.{◌≡◌, false, map};
 ghost use Rattle.graphql_names.specs.Device.{device_failed};
@@ -17,7 +17,7 @@ use graphql_names::Device;
 use std::alloc::Global;
 use std::io::{Read, Write};
 
-/// [`graphql_checked::check_texts`], of which the laws speak: texts and extensions are counted from 1.
+/// [`graphql_checked::check_texts`], which the laws are about: texts and extensions are counted from 1.
 pub fn check_texts(
     alloc: Global,
     schemas: &[&str],
@@ -29,21 +29,21 @@ pub fn check_texts(
     graphql_checked::check_texts(alloc, schemas, document, limits)
 }
 
-/// [`Checker::finish`], of which the laws speak.
+/// [`Checker::finish`], which the laws are about.
 pub fn finish(checker: Checker) -> Result<CheckedSchema, Refusal>
     ensures { AnswersFinish checker (seen_schema result) }
 {
     checker.finish()
 }
 
-/// [`CheckedSchema::check`], of which the laws speak.
+/// [`CheckedSchema::check`], which the laws are about.
 pub fn check<'s>(schema: &'s CheckedSchema, text: &str) -> Result<CheckedDocument<'s>, Refusal>
     ensures { AnswersCheck (schema_value schema.now) text.now (seen_document result) }
 {
     schema.check(text)
 }
 
-/// [`graphql_checked::run`], of which the laws speak, over devices that tell their bytes.
+/// [`graphql_checked::run`], which the laws are about, over devices that tell their bytes.
 pub fn run<R: Read, D: Read, W: Write>(
     alloc: Global,
     schemas: &mut [Device<R>],

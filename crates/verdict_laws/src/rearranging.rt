@@ -1,4 +1,4 @@
-//! Lists of definitions that differ in order and places alone.
+//! Lists of definitions that differ only in order and places.
 
 ghost use Rattle.verdict_laws.specs.Permuting.{PermutedIsRearranged, RearrangedIsPermuted, RearrangingIsAnEquivalence};
 ghost use Rattle.verdict_laws.specs.Adopting.{SettledIsRearranged, CutSettlesAlike, SettledStandElsewhere};
@@ -15,7 +15,7 @@ pub fn rearranged_lists_fold_alike()
     ensures rules { RearrangedKeepTheRules }
 {}
 
-/// Of lists that are rearranged the same is built in, the same rules hold, and documents are judged over the same schema.
+/// Lists that are rearranged fold to equal schemas with the same things built in: the same rules hold, and documents are judged alike.
 pub fn rearranged_lists_judge_alike()
     ensures equal { RearrangedAreEqual }
     ensures verdict { RearrangedSameVerdict }
@@ -23,12 +23,12 @@ pub fn rearranged_lists_judge_alike()
     ensures judged { RearrangedJudgeAlike }
 {}
 
-/// Schemas that are equal, with the same built in, are so after validation.
+/// Schemas that are equal, with the same things built in, are equal after validation too.
 pub fn equal_schemas_stay_equal()
     ensures { EqualAfterValidation }
 {}
 
-/// In a fold no two things stand under one name.
+/// No two things in a fold have one name.
 pub fn folds_are_distinct()
     ensures { FoldsAreDistinct }
 {}
@@ -40,7 +40,7 @@ pub fn cut_lists_are_alike()
     ensures written { CutWritesAlike }
 {}
 
-/// The numbers of extensions play no part in what is written.
+/// The numbers of extensions do not change what is written.
 pub fn numbers_are_not_written()
     ensures { NumbersAreNotWritten }
 {}
@@ -51,8 +51,8 @@ pub fn rearranged_lists_write_alike()
     ensures permuted { RearrangedWritesPermuted }
 {}
 
-/// Permutations that keep the order of what defines, or extends, the same are what lists are rearranged by; and rearranging is an
-/// equivalence.
+/// Lists are rearranged by the permutations that keep the order of definitions, and of extensions, of the same thing; and
+/// rearranging is an equivalence.
 pub fn permuted_lists_are_rearranged()
     ensures rearranged { PermutedIsRearranged }
     ensures permuted { RearrangedIsPermuted }
@@ -67,7 +67,7 @@ pub fn settings_keep_the_order()
     ensures elsewhere { SettledStandElsewhere }
 {}
 
-/// What is read under other numbers than that of what is built in stands elsewhere, so that no type or directive in it is built
+/// What is read under other numbers than that of what is built in is not in its file, so that no type or directive in it is built
 /// in: the premises of the laws.
 pub fn read_texts_stand_elsewhere()
     ensures elsewhere { ReadTextsStandElsewhere }

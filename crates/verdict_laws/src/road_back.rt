@@ -3,19 +3,19 @@
 ghost use Rattle.verdict_laws.specs.EqualTexts.{EqualSchemaTexts, EqualDocumentTexts};
 ghost use Rattle.verdict_laws.specs.RoadBack.{SchemaRoadBack, DocumentRoadBack, PairRoadBack, AnswerRoadBack};
 
-/// What is written of accepted schema texts is read back, accepted, equal, and written as it was.
+/// What is written of accepted schema texts is read back, accepted, equal, and written unchanged.
 pub fn schemas_lead_back()
     ensures { SchemaRoadBack }
 {}
 
-/// What is written of a document that is accepted over a schema is, over each equal one, read back, accepted, equal, and written as
-/// it was.
+/// What is written of a document that is accepted over a schema is, over each equal one, read back, accepted, equal, and
+/// written unchanged.
 pub fn documents_lead_back()
     ensures { DocumentRoadBack }
 {}
 
-/// What is written of an accepted pair is accepted on the same terms, for sure where the pair was, and the same bytes are put out
-/// for it; and so they are where what is put out is put in again.
+/// What is written of an accepted pair is accepted on the same terms, certain if the pair was, and the same bytes are output
+/// for it; and so they are if that output is given as input again.
 pub fn pairs_lead_back()
     ensures pairs { PairRoadBack }
     ensures answers { AnswerRoadBack }

@@ -7,7 +7,7 @@ pub fn written_twice()
     ensures { WrittenTwice }
 {}
 
-/// The same beside the table of what is built in.
+/// The same for the repository's table of what is built in.
 pub fn written_twice_beside_the_table()
     ensures { WrittenTwiceBesideTheTable }
 {}

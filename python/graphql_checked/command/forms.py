@@ -73,7 +73,7 @@ def in_checkout(path: str) -> str:
 
 
 def github(it: Finding) -> str:
-    """A finding as a workflow command of GitHub."""
+    """A finding as a workflow command of GitHub: what belongs to it and what may be meant are lines of its message."""
     place = it.place
     where = {"file": in_checkout(place.path)}
     if place.line is not None:
@@ -81,7 +81,8 @@ def github(it: Finding) -> str:
         where.update({key: str(number) for key, number in told.items()})
     where["title"] = it.rule
     given = ",".join(f"{key}={escaped(value, True)}" for key, value in where.items())
-    return shown(f"::{it.severity} {given}::{escaped(it.message + (f' ({it.hint})' if it.hint else ''), False)}")
+    lines = [it.message, *(f"= {noted.place}: {noted.words}" for noted in it.related), *([f"= help: {it.hint}"] if it.hint else [])]
+    return shown(f"::{it.severity} {given}::{'%0A'.join(escaped(line, False) for line in lines)}")
 
 
 def sarif_place(place: Place) -> Dict[str, Any]:

@@ -3,7 +3,7 @@ use Rattle.std.specs.Prelude.{fold}
 use Rattle.tree_definitions.specs.DefinitionTree.{definition_tree}
 use Rattle.document_typing.specs.DefinedByPlace.{IsDefinedDocument}
 use Rattle.document_typing.specs.MeaningView.{schema_under, meanings_under}
-use Rattle.document_typing.specs.Steps.{and_definition, typed_in}
+use Rattle.document_typing.specs.TypedDefinitions.{and_definition, typed_in}
 use Rattle.document_typing.specs.StepsView.{typed_view, kept_tree}
 use Rattle.document_typing.proofs.document.type_document.Given as goal
 

@@ -1,5 +1,6 @@
 use Rattle.std.proofs.Common.{sym, subst}
 use Rattle.tree_definitions.specs.DefinitionTree.{document_tree}
+use Rattle.std.specs.Option.{option_copied}
 use Rattle.book_validity.specs.in_schema.SchemaOf.{schema_tree}
 use Rattle.book_validity.specs.in_schema.declared.schema.Schema.{Schema}
 use Rattle.book_validity.specs.in_typing.DocumentView.{meant_document}
@@ -7,7 +8,7 @@ use Rattle.document_typed_operations.specs.TypedDocument.{typed_document_tree}
 use Rattle.rule_definitions.specs.Judged.{judged}
 use Rattle.graphql_faults.specs.DetailsView.{diagnostics_of}
 use Rattle.graphql_validation.specs.TellsLasting.{TypedLastingTold}
-use Rattle.graphql_validation.specs.in_fragments.Possible.{ArePossible}
+use Rattle.graphql_validation.specs.in_fragments.Possible.{ArePossibleIfFound}
 use Rattle.graphql_checked.specs.CheckedView.{CheckedSchemaParts}
 use Rattle.graphql_checked.specs.Checking.{TypesDocument, RefusesTyping}
 use Rattle.graphql_checked.proofs.Typing.{refuses_typing}
@@ -15,7 +16,8 @@ use Rattle.graphql_checked.proofs.checked_schema.typed.Goals as goal
 
 pub tell_lasting_faults-requires : goal.tell_lasting_faults-requires
 tell_lasting_faults-requires c =
-    subst (λ (x : Schema). ArePossible (judged (schema_tree x)) c.schema.inside.possible) (sym c.new-over.ensures) c.schema.invariant.1.0
+    subst (λ (x : Schema). ArePossibleIfFound (judged (schema_tree x)) (option_copied c.as_ref-possible.result)) (sym c.new-over.ensures)
+    (subst (ArePossibleIfFound (judged (schema_tree c.schema.inside.schema))) (sym c.as_ref-possible.ensures.value) c.schema.invariant.1.0)
 
 pub returns-then-not-is_empty-clause-refused : goal.returns-then-not-is_empty-clause-refused
 returns-then-not-is_empty-clause-refused c =

@@ -23,10 +23,10 @@ returns-in_err-outcome-clause-complete g c =
 pub returns-in_err-put-clause-fault : goal.returns-in_err-put-clause-fault
 returns-in_err-put-clause-fault g c =
     let p = err_from_is_err_and c.from_residual-in_err-put.result c.from_residual-in_err-put.ensures.1 in
-    let are = subst (AreTextsOf g.R.Read.remaining c.args.schemas.now) (ap (map string_bytes) (sym c.deref.ensures.value)) c.in_ok-texts.ensures.texts in
-    let is = subst (IsTextOf g.D.Read.remaining c.args.document.now) (sym c.deref-2.ensures) c.in-Ok.ensures.text in
-    let utf8 = subst (λ ts. All IsUtf8 (map string_bytes ts)) (sym c.deref.ensures.value) (all_utf8 c.in_ok-texts.texts.items) in
-    let text_utf8 = subst IsUtf8 (sym c.deref-2.ensures) (IsUtf8-string_bytes c.in-Ok.text) in
+    let are = c.in_ok-texts.ensures.texts in
+    let is = subst (IsTextOf g.D.Read.remaining c.args.document.now) (sym c.deref.ensures) c.in-Ok.ensures.text in
+    let utf8 = all_utf8 c.in_ok-texts.texts.items in
+    let text_utf8 = subst IsUtf8 (sym c.deref.ensures) (IsUtf8-string_bytes c.in-Ok.text) in
     rw (p.1, p.2) (put_due g.R.Read.remaining g.D.Read.remaining g.W.Write.contents (prefix_of c.args.layout) (first_terms c.args.limits.nesting) c.args.schemas.now _ c.args.document.now _ _ _ _ _ c.in_ok-outcome.outcome _ _
     are is utf8 text_utf8 (c.in_ok-texts.ensures.end, c.in-Ok.ensures.end) c.in_ok-outcome.ensures.answer.1 c.in_err-put.ensures.fault)
 
@@ -35,24 +35,24 @@ put-requires g c = c.in_ok-outcome.ensures.answer.0
 
 pub returns-clause-complete : goal.returns-clause-complete
 returns-clause-complete g c =
-    let texts = map string_bytes c.deref.result.now in
-    let are = subst (AreTextsOf g.R.Read.remaining c.args.schemas.now) (ap (map string_bytes) (sym c.deref.ensures.value)) c.in_ok-texts.ensures.texts in
-    let is = subst (IsTextOf g.D.Read.remaining c.args.document.now) (sym c.deref-2.ensures) c.in-Ok.ensures.text in
+    let texts = map string_bytes c.in_ok-texts.texts.items in
+    let are = c.in_ok-texts.ensures.texts in
+    let is = subst (IsTextOf g.D.Read.remaining c.args.document.now) (sym c.deref.ensures) c.in-Ok.ensures.text in
     λ tell. certain_outcome c.in_ok-outcome.outcome c.in_ok-outcome.bytes (c.in_ok-outcome.ensures.complete
-    (certain_here g.R.Read.remaining g.D.Read.remaining (first_terms c.args.limits.nesting) c.args.schemas.now c.args.document.now texts c.deref-2.result.now are is tell))
+    (certain_here g.R.Read.remaining g.D.Read.remaining (first_terms c.args.limits.nesting) c.args.schemas.now c.args.document.now texts c.deref.result.now are is tell))
 
 pub returns-clause-schemas_running : goal.returns-clause-schemas_running
 returns-clause-schemas_running g c = none_failed c.args.schemas.now c.read_texts.new.devices c.in_ok-texts.ensures.running c.requires.schemas_run
 
 pub returns-clause-answers : goal.returns-clause-answers
 returns-clause-answers g c = record {
-  texts = map string_bytes c.deref.result.now;
-  text = c.deref-2.result.now;
+  texts = map string_bytes c.in_ok-texts.texts.items;
+  text = c.deref.result.now;
   bytes = parts_bytes c.in_ok-outcome.bytes;
-  schemas_are = subst (AreTextsOf g.R.Read.remaining c.args.schemas.now) (ap (map string_bytes) (sym c.deref.ensures.value)) c.in_ok-texts.ensures.texts;
-  document_is = subst (IsTextOf g.D.Read.remaining c.args.document.now) (sym c.deref-2.ensures) c.in-Ok.ensures.text;
-  schemas_are_utf8 = subst (λ ts. All IsUtf8 (map string_bytes ts)) (sym c.deref.ensures.value) (all_utf8 c.in_ok-texts.texts.items);
-  document_is_utf8 = subst IsUtf8 (sym c.deref-2.ensures) (IsUtf8-string_bytes c.in-Ok.text);
+  schemas_are = c.in_ok-texts.ensures.texts;
+  document_is = subst (IsTextOf g.D.Read.remaining c.args.document.now) (sym c.deref.ensures) c.in-Ok.ensures.text;
+  schemas_are_utf8 = all_utf8 c.in_ok-texts.texts.items;
+  document_is_utf8 = subst IsUtf8 (sym c.deref.ensures) (IsUtf8-string_bytes c.in-Ok.text);
   answers = c.in_ok-outcome.ensures.answer.1;
   put = c.in_ok-put.ensures.whole;
 }

@@ -1,7 +1,7 @@
 use Rattle.std.proofs.Common.{List, false, codes, sym, subst, ◌∙◌}
 use Rattle.graphql_checked_c.specs.declared.held.HeldText.{HeldText}
 use Rattle.graphql_checked_c.specs.HeldTexts.{AreHeld, IsHeldFault}
-use Rattle.graphql_checked_c.specs.Told.{TellsRefusal}
+use Rattle.graphql_checked_c.specs.CallResults.{TellsRefusal}
 use Rattle.graphql_checked_c.proofs.Answers.{texts_not_utf8, texts_refused}
 use Rattle.graphql_checked_c.proofs.opening.kept_of_texts.Goals as goal
 

@@ -1,5 +1,5 @@
 use Rattle.std.proofs.Common.{◌≡◌, ℕ, List, [], subst}
-use Rattle.graphql_checked_c.specs.Told.{IsYesOver, AnswersOver}
+use Rattle.graphql_checked_c.specs.CallResults.{IsYesOver, AnswersOver}
 use Rattle.graphql_checked_c.proofs.over.checked.Goals as goal
 
 pub returns : goal.returns

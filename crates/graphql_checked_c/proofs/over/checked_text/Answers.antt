@@ -1,6 +1,6 @@
 use Rattle.std.proofs.Common.{◌≡◌, ℕ, List, []}
 use Rattle.graphql_checked.specs.CheckedView.{document_value}
-use Rattle.graphql_checked_c.specs.Told.{IsYesOver}
+use Rattle.graphql_checked_c.specs.CallResults.{IsYesOver}
 use Rattle.graphql_checked_c.proofs.Answers.{over_yes, over_refused}
 use Rattle.graphql_checked_c.proofs.over.checked_text.Goals as goal
 

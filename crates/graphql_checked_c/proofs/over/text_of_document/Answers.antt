@@ -1,5 +1,5 @@
 use Rattle.checker_calls.specs.Layouts.{prefix_of}
-use Rattle.graphql_checked_c.specs.Told.{IsDocumentText}
+use Rattle.graphql_checked_c.specs.CallResults.{IsDocumentText}
 use Rattle.graphql_checked_c.proofs.Answers.{over_written, over_refused}
 use Rattle.graphql_checked_c.proofs.over.text_of_document.Goals as goal
 

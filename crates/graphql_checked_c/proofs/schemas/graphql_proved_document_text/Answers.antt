@@ -2,7 +2,7 @@ use Rattle.std.proofs.Common.{sym, ap, ◌∙◌}
 use Rattle.std.specs.Prelude.{Some}
 use Rattle.checker_calls.specs.Layouts.{prefix_of}
 use Rattle.graphql_checked_c.specs.declared.handle.Kept.{Kept}
-use Rattle.graphql_checked_c.specs.Told.{IsDocumentText, layout_of}
+use Rattle.graphql_checked_c.specs.CallResults.{IsDocumentText, layout_of}
 use Rattle.graphql_checked_c.proofs.Answers.{document_told, report_told, held_prefixed}
 use Rattle.graphql_checked_c.proofs.schemas.graphql_proved_document_text.Goals as goal
 

@@ -1,7 +1,7 @@
 use Rattle.std.proofs.Common.{◌≡◌, ℕ, List, [], sym, ap, ◌∙◌}
 use Rattle.std.specs.Prelude.{Some}
 use Rattle.graphql_checked_c.specs.declared.handle.Kept.{Kept}
-use Rattle.graphql_checked_c.specs.Told.{IsYesOver}
+use Rattle.graphql_checked_c.specs.CallResults.{IsYesOver}
 use Rattle.graphql_checked_c.proofs.Answers.{report_told, held_complete}
 use Rattle.graphql_checked_c.proofs.schemas.graphql_proved_schema_check.Goals as goal
 

@@ -1,5 +1,5 @@
 use Rattle.std.proofs.Common.{◌≡◌}
-use Rattle.document_walks.specs.Lending.{root_fields_left}
+use Rattle.document_typed_operations.specs.Lending.{root_fields_left}
 use Rattle.graphql_documents.specs.Introspection.{are_meta_fields}
 use Rattle.graphql_documents.proofs.operation.are_meta_fields.Given as goal
 

@@ -2,7 +2,7 @@ use Rattle.std.proofs.Common.{[], ◌∷◌, ◌++◌, sym, ap, subst, ◌∙◌
 use Rattle.std.proofs.lemmas.List.{map-append}
 use Rattle.graphql_names.specs.Placed.{Place, node_tree}
 use Rattle.tree_directives.specs.DirectiveTree.{Directives, directive_tree}
-use Rattle.rule_uses.specs.Trees.{directives_of}
+use Rattle.rule_arguments.specs.Trees.{directives_of}
 use Rattle.graphql_rules.specs.Given.{Each, LeadsToDirective}
 use Rattle.graphql_rules.proofs.GivenFacts.{each_more, same_node}
 use Rattle.graphql_rules.proofs.given.nodes_of.Goals as goal

@@ -1,4 +1,4 @@
-use Rattle.rule_uses.specs.Trees.{directives_of}
+use Rattle.rule_arguments.specs.Trees.{directives_of}
 use Rattle.graphql_rules.specs.Given.{Each, LeadsToDirective}
 use Rattle.graphql_rules.proofs.given.nodes_of.Given as goal
 

@@ -1,8 +1,8 @@
 use Rattle.std.proofs.Common.{ap, map}
 use Rattle.std.proofs.lemmas.Result.{on_ok_weaker}
 use Rattle.fault_data.specs.FaultView.{fault_of, faults_of}
-use Rattle.rule_uses.specs.Alone.{ArgumentsBreak}
-use Rattle.rule_uses.specs.Trees.{arguments_of}
+use Rattle.rule_arguments.specs.Alone.{ArgumentsBreak}
+use Rattle.rule_arguments.specs.Trees.{arguments_of}
 use Rattle.graphql_faults.specs.DetailsView.{diagnostics_of}
 use Rattle.graphql_rules.proofs.Appended.{appends_first}
 use Rattle.graphql_rules.proofs.given.validate_arguments.Goals as goal

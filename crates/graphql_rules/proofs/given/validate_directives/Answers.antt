@@ -8,8 +8,8 @@ use Rattle.rule_definitions.specs.Judged.{judged}
 use Rattle.rule_definitions.specs.Uses.{UsesBreak}
 use Rattle.fault_data.specs.FaultView.{fault_of, faults_of}
 use Rattle.fault_data.specs.Adds.{Adds}
-use Rattle.rule_uses.specs.in_rule_values.Wanting.{variables_of}
-use Rattle.rule_uses.specs.Trees.{directives_of, tree_of}
+use Rattle.rule_arguments.specs.in_rule_values.Wanting.{variables_of}
+use Rattle.rule_arguments.specs.Trees.{directives_of, tree_of}
 use Rattle.graphql_faults.specs.DetailsView.{diagnostics_of}
 use Rattle.graphql_rules.specs.Given.{Each, LeadsToDirective}
 use Rattle.graphql_rules.proofs.Appended.{appends_first}

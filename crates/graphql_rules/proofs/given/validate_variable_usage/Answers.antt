@@ -5,9 +5,9 @@ use Rattle.tree_directives.specs.DirectiveTree.{argument_tree, input_value_tree}
 use Rattle.tree_operations.specs.declared.operation.VariableDefinition.{VariableDefinition}
 use Rattle.fault_data.specs.FaultView.{fault_of}
 use Rattle.fault_data.specs.declared.fault.Fault.{Fault}
-use Rattle.rule_uses.specs.Steps.{Lists, DisallowedUsage}
+use Rattle.rule_arguments.specs.GivenArguments.{Lists, DisallowedUsage}
 use Rattle.graphql_faults.specs.DetailsView.{diagnostics_of}
-use Rattle.rule_uses.specs.in_rule_values.Wanting.{variables_of}
+use Rattle.rule_arguments.specs.in_rule_values.Wanting.{variables_of}
 use Rattle.graphql_rules.proofs.GivenFacts.{usage_told}
 use Rattle.graphql_rules.proofs.given.validate_variable_usage.Goals as goal
 

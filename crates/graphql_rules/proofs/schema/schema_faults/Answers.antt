@@ -3,7 +3,7 @@ use Rattle.rule_cycles.specs.in_schema.SchemaOf.{schema_tree}
 use Rattle.rule_cycles.specs.in_schema.declared.schema.Schema.{Schema}
 use Rattle.rule_definitions.specs.Distinct.{AreAllDistinct}
 use Rattle.rule_definitions.specs.Rules.{SchemaUsesBreak}
-use Rattle.rule_definitions.specs.Told.{Told}
+use Rattle.rule_definitions.specs.PlacedFaults.{Told}
 use Rattle.fault_data.specs.Adds.{Adds}
 use Rattle.fault_data.specs.FaultView.{fault_of, faults_of}
 use Rattle.graphql_rules.proofs.Whole.{all_told, first_told, tells_schema}

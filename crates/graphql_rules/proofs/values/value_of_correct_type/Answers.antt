@@ -11,7 +11,7 @@ use Rattle.rule_definitions.specs.in_schema_types.Addresses.{place_at}
 use Rattle.rule_definitions.specs.Judged.{judged}
 use Rattle.rule_definitions.specs.Values.{ValueBreaks}
 use Rattle.rule_definitions.proofs.Accepting.{accepts_where_quiet}
-use Rattle.rule_uses.specs.in_rule_values.Wanting.{wanted_type, variables_of}
+use Rattle.rule_arguments.specs.in_rule_values.Wanting.{wanted_type, variables_of}
 use Rattle.fault_data.specs.FaultView.{fault_of, faults_of}
 use Rattle.fault_data.specs.Adds.{Adds}
 use Rattle.graphql_faults.specs.DetailsView.{diagnostics_of}

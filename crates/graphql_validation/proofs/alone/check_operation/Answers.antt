@@ -4,11 +4,11 @@ use Rattle.fault_data.specs.FaultView.{faults_of}
 use Rattle.document_typed_selections.specs.TypedTree.{typed_set_tree}
 use Rattle.document_typed_operations.specs.declared.operation.Operation.{Operation}
 use Rattle.rule_fragments.specs.in_typed_operations.DocumentView.{document_meant, operation_meant}
-use Rattle.rule_document_definitions.specs.Told.{places_alone}
-use Rattle.rule_fragments.specs.in_ground.NotedNames.{noted_names}
+use Rattle.rule_document_definitions.specs.PlacedDocumentFaults.{places_alone}
+use Rattle.rule_fragments.specs.in_reach.NotedNames.{noted_names}
 use Rattle.rule_definitions.proofs.Adding.{gains_both, gains_same}
-use Rattle.rule_fragments.specs.in_ground.Reach.{reached_members, reached_fragments_of}
-use Rattle.rule_fragments.proofs.in_ground.OfDocuments.{ReachesFrom, operation_reaches}
+use Rattle.rule_fragments.specs.in_reach.Reach.{reached_members, reached_fragments_of}
+use Rattle.rule_fragments.proofs.in_reach.OfDocuments.{ReachesFrom, operation_reaches}
 use Rattle.graphql_validation.proofs.Noting.{fragments_noted}
 use Rattle.graphql_validation.proofs.Ordered.{ordered_alone}
 use Rattle.graphql_validation.proofs.alone.check_operation.Goals as goal

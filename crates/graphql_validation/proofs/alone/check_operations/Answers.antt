@@ -2,15 +2,15 @@ use Rattle.std.proofs.Common.{◌≡◌, ◌∙◌, ◌∷◌, [], ◌++◌, map
 use Rattle.fault_data.specs.FaultView.{fault_of, faults_of}
 use Rattle.graphql_names.specs.Placed.{Place}
 use Rattle.document_typed_operations.specs.OperationsByName.{left_operations}
-use Rattle.document_meaning.specs.MeantTree.{MeantOperation}
+use Rattle.spec_document.specs.MeantTree.{MeantOperation}
 use Rattle.rule_fragments.specs.in_typed_operations.DocumentView.{document_meant, operation_meant}
-use Rattle.rule_definitions.specs.Told.{PlacedFault}
+use Rattle.rule_definitions.specs.PlacedFaults.{PlacedFault}
 use Rattle.rule_definitions.specs.Words.{AtSomeIndex}
 use Rattle.rule_document_definitions.specs.Reached.{AtOperation}
 use Rattle.rule_document_definitions.specs.Selected.{operations}
-use Rattle.rule_fragments.specs.in_ground.NotedNames.{noted_names}
+use Rattle.rule_fragments.specs.in_reach.NotedNames.{noted_names}
 use Rattle.rule_fragments.specs.UnlessFull.{TellsUnlessFull}
-use Rattle.rule_fragments.proofs.in_ground.AtReaches.{some_index}
+use Rattle.rule_fragments.proofs.in_reach.AtReaches.{some_index}
 use Rattle.graphql_validation.specs.Operations.{OperationFailsAlone, ReachesNamed, NotesNames}
 use Rattle.graphql_validation.proofs.Joined.{TellsOf, none_found, more_found, all_found, full_found}
 use Rattle.graphql_validation.proofs.Noting.{notes_none, notes_more, notes_same}

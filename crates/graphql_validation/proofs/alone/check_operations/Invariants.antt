@@ -5,7 +5,7 @@ use Rattle.rule_fragments.specs.in_typed_operations.DocumentView.{document_meant
 use Rattle.rule_definitions.specs.Words.{AtSomeIndex}
 use Rattle.rule_document_definitions.specs.Reached.{AtOperation}
 use Rattle.rule_document_definitions.specs.Selected.{operations}
-use Rattle.rule_fragments.specs.in_ground.NotedNames.{noted_names}
+use Rattle.rule_fragments.specs.in_reach.NotedNames.{noted_names}
 use Rattle.rule_fragments.specs.UnlessFull.{TellsUnlessFull}
 use Rattle.graphql_validation.specs.Operations.{OperationFailsAlone, ReachesNamed, NotesNames}
 use Rattle.rule_fragments.proofs.Operations.{lent_operations}

@@ -3,7 +3,7 @@ use Rattle.std.proofs.lemmas.Result.{IfOk-weaker}
 use Rattle.rule_fragments.specs.in_typed_operations.DocumentView.{document_meant}
 use Rattle.fault_data.specs.FaultView.{fault_of, faults_of}
 use Rattle.rule_document_definitions.specs.Reached.{AtOperation}
-use Rattle.rule_fragments.specs.in_ground.NotedNames.{noted_names}
+use Rattle.rule_fragments.specs.in_reach.NotedNames.{noted_names}
 use Rattle.rule_fragments.specs.UnlessFull.{HasAll, AddsUnlessFull}
 use Rattle.graphql_validation.specs.Operations.{OperationFailsAlone, AllAlone}
 use Rattle.rule_fragments.proofs.UnlessFull.{as_added}

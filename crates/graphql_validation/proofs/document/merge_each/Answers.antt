@@ -3,7 +3,7 @@ use Rattle.std.specs.Prelude.{IsTrue}
 use Rattle.rule_document_definitions.specs.Merging.{FieldsMerge}
 use Rattle.rule_document_definitions.specs.Selected.{operations}
 use Rattle.rule_merging.specs.in_faults.DetailsView.{diagnostics_of}
-use Rattle.document_meaning.specs.MeantTree.{MeantDocument}
+use Rattle.spec_document.specs.MeantTree.{MeantDocument}
 use Rattle.graphql_names.specs.Placed.{Place}
 use Rattle.rule_definitions.specs.Judged.{Judged, judged}
 use Rattle.rule_fragments.specs.in_schema.SchemaOf.{schema_tree}

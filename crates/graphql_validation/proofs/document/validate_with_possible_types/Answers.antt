@@ -4,10 +4,10 @@ use Rattle.rule_fragments.specs.in_typed_operations.DocumentView.{document_meant
 use Rattle.rule_document_definitions.proofs.UnplacedFragments.{named_if_own}
 use Rattle.fault_data.specs.FaultView.{faults_of}
 use Rattle.rule_merging.specs.in_faults.DetailsView.{diagnostics_of}
-use Rattle.rule_fragments.specs.in_ground.Broken.{brokens_of}
+use Rattle.rule_fragments.specs.in_reach.Broken.{brokens_of}
 use Rattle.rule_fragments.specs.in_schema.SchemaOf.{schema_tree}
 use Rattle.rule_fragments.specs.in_schema.declared.schema.Schema.{Schema}
-use Rattle.graphql_validation.specs.Steps.{TellsMerging, AllMerge}
+use Rattle.graphql_validation.specs.OperationChecks.{TellsMerging, AllMerge}
 use Rattle.graphql_validation.specs.Operations.{all_told}
 use Rattle.graphql_validation.specs.TellsDocument.{IsTypedUnder, TellsDocument}
 use Rattle.rule_merging.proofs.Behind.{begins_same, refused_so}

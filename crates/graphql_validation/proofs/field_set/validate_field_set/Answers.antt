@@ -3,11 +3,11 @@ use Rattle.std.proofs.lemmas.Result.{on_ok_weaker}
 use Rattle.rule_fragments.specs.in_typed_operations.DocumentView.{document_meant}
 use Rattle.fault_data.specs.FaultView.{faults_of}
 use Rattle.rule_merging.specs.in_faults.DetailsView.{diagnostics_of}
-use Rattle.rule_fragments.specs.in_ground.Broken.{broken_of, brokens_of}
+use Rattle.rule_fragments.specs.in_reach.Broken.{broken_of, brokens_of}
 use Rattle.rule_fragments.specs.in_schema.SchemaOf.{schema_tree}
 use Rattle.rule_fragments.specs.in_schema.declared.schema.Schema.{Schema}
-use Rattle.graphql_validation.specs.Steps.{TellsUnder}
-use Rattle.graphql_validation.specs.Told.{set_meant}
+use Rattle.graphql_validation.specs.OperationChecks.{TellsUnder}
+use Rattle.graphql_validation.specs.ValidationFaults.{set_meant}
 use Rattle.rule_definitions.specs.Room.{most_told}
 use Rattle.graphql_validation.specs.Operations.{all_told}
 use Rattle.graphql_validation.proofs.Once.{told_once, none_once}

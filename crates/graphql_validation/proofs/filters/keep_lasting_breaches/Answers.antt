@@ -1,6 +1,6 @@
 use Rattle.std.proofs.Common.{rules}
 use Rattle.std.proofs.lemmas.Fn.{filter_same}
-use Rattle.fault_document_data.specs.DocumentBreachView.{document_breach_of}
+use Rattle.fault_document_errors.specs.DocumentBreachView.{document_breach_of}
 use Rattle.graphql_validation.specs.Lasts.{breach_lasts}
 use Rattle.graphql_validation.proofs.filters.keep_lasting_breaches.Goals as goal
 

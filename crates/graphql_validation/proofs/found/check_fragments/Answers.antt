@@ -1,6 +1,6 @@
 use Rattle.std.proofs.Common.{◌∙◌, refl, sym, subst, true≢false}
 use Rattle.fault_data.specs.FaultView.{faults_of}
-use Rattle.rule_fragments.specs.Told.{TellsFragmentCycles}
+use Rattle.rule_fragments.specs.FragmentCycles.{TellsFragmentCycles}
 use Rattle.rule_fragments.specs.in_typed_operations.DocumentView.{document_meant}
 use Rattle.graphql_validation.proofs.found.check_fragments.Goals as goal
 

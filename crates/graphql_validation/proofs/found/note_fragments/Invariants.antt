@@ -1,6 +1,6 @@
 use Rattle.std.proofs.Common.{◌≡◌, drop, map}
-use Rattle.rule_fragments.specs.in_ground.NotedNames.{noted_names}
-use Rattle.rule_fragments.specs.in_ground.Reach.{fragment_of}
+use Rattle.rule_fragments.specs.in_reach.NotedNames.{noted_names}
+use Rattle.rule_fragments.specs.in_reach.Reach.{fragment_of}
 use Rattle.graphql_validation.specs.Operations.{with_fragments}
 use Rattle.graphql_validation.proofs.found.note_fragments.Given as goal
 

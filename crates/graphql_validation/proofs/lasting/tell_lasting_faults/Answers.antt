@@ -4,7 +4,7 @@ use Rattle.rule_fragments.specs.in_typed_operations.DocumentView.{document_meant
 use Rattle.fault_data.specs.FaultView.{faults_of}
 use Rattle.rule_merging.specs.in_faults.DetailsTree.{of_document}
 use Rattle.rule_merging.specs.in_faults.DetailsView.{diagnostics_of}
-use Rattle.rule_fragments.specs.in_ground.Broken.{broken_of, brokens_of}
+use Rattle.rule_fragments.specs.in_reach.Broken.{broken_of, brokens_of}
 use Rattle.rule_fragments.specs.in_schema.SchemaOf.{schema_tree}
 use Rattle.graphql_validation.specs.Lasts.{broken_lasts}
 use Rattle.graphql_validation.proofs.Filtered.{filter_view}

@@ -1,6 +1,6 @@
 use Rattle.std.proofs.Common.{inl, inr}
 use Rattle.rule_definitions.specs.Judged.{judged}
-use Rattle.rule_document_definitions.specs.Told.{places_in}
+use Rattle.rule_document_definitions.specs.PlacedDocumentFaults.{places_in}
 use Rattle.graphql_validation.proofs.Staying.{lasting_stays, cycle_stays}
 use Rattle.graphql_validation.proofs.Reasons.{lasting_is_fault, cycle_is_fault, same_document}
 use Rattle.graphql_validation.proofs.laws.lasting_faults_stay.Goals as goal

@@ -4,7 +4,7 @@ use Rattle.fault_data.specs.FaultView.{faults_of}
 use Rattle.rule_merging.specs.in_faults.DetailsTree.{of_rule, of_document}
 use Rattle.rule_merging.specs.in_faults.DetailsView.{diagnostics_of}
 use Rattle.rule_document_definitions.specs.DocumentFaults.{OfDocument}
-use Rattle.rule_fragments.specs.in_ground.Broken.{brokens_of}
+use Rattle.rule_fragments.specs.in_reach.Broken.{brokens_of}
 use Rattle.rule_merging.proofs.Behind.{begins_behind, begins_kept, refused_so}
 use Rattle.graphql_validation.proofs.Telling.{told_in_turn}
 use Rattle.graphql_validation.proofs.told.append_told.Goals as goal

@@ -2,7 +2,7 @@ use Rattle.std.proofs.Common.{◌-◌, ◌&&◌, map, length, ltb, ap, sym, ◌�
 use Rattle.std.proofs.lemmas.List.{take-map, length-map}
 use Rattle.fault_data.specs.FaultView.{fault_of, faults_of}
 use Rattle.rule_definitions.specs.Room.{most_told}
-use Rattle.rule_fragments.specs.in_ground.Broken.{broken_of, brokens_of}
+use Rattle.rule_fragments.specs.in_reach.Broken.{broken_of, brokens_of}
 use Rattle.graphql_validation.proofs.FirstTold.{kept_told}
 use Rattle.graphql_validation.proofs.told.keep_first.Goals as goal
 

@@ -3,17 +3,17 @@ use Rattle.std.proofs.lemmas.Result.{on_ok_weaker}
 use Rattle.fault_data.specs.FaultView.{faults_of}
 use Rattle.rule_fragments.specs.in_schema.SchemaOf.{schema_tree}
 use Rattle.rule_fragments.specs.in_typed_operations.DocumentView.{operation_meant}
-use Rattle.rule_document_definitions.specs.Told.{place_or_built_in, places_in}
+use Rattle.rule_document_definitions.specs.PlacedDocumentFaults.{place_or_built_in, places_in}
 use Rattle.rule_document_definitions.specs.Fragments.{InvalidFragmentTargetAt, InvalidFragmentSpreadAt}
 use Rattle.graphql_names.specs.Placed.{Place}
-use Rattle.document_meaning.specs.MeantTree.{MeantDocument, MeantOperation}
+use Rattle.spec_document.specs.MeantTree.{MeantDocument, MeantOperation}
 use Rattle.fault_data.specs.Adds.{Adds}
 use Rattle.rule_definitions.specs.Judged.{judged}
 use Rattle.rule_fragments.specs.Possible.{ArePossibleIfFound}
 use Rattle.rule_fragments.specs.in_schema.declared.schema.Schema.{Schema}
-use Rattle.rule_fragments.specs.in_ground.NotedNames.{noted_names}
+use Rattle.rule_fragments.specs.in_reach.NotedNames.{noted_names}
 use Rattle.rule_definitions.proofs.Adding.{gains_both, gains_same}
-use Rattle.rule_fragments.specs.in_ground.Reach.{IsReachOf, meant_fragments, reached_members, reached_fragments_of}
+use Rattle.rule_fragments.specs.in_reach.Reach.{IsReachOf, meant_fragments, reached_members, reached_fragments_of}
 use Rattle.graphql_validation.proofs.Noting.{fragments_noted, notes_same}
 use Rattle.graphql_validation.proofs.Settled.{instead_of, reached_instead, told_instead, named_instead, typed_instead}
 use Rattle.graphql_validation.specs.Operations.{ReachesNamed}

@@ -8,8 +8,8 @@ use Rattle.rule_definitions.specs.Judged.{judged}
 use Rattle.rule_document_definitions.specs.Reached.{AtOperation}
 use Rattle.rule_document_definitions.specs.Selected.{operations}
 use Rattle.rule_fragments.specs.Possible.{ArePossibleIfFound}
-use Rattle.rule_fragments.specs.in_ground.NotedNames.{noted_names}
-use Rattle.rule_fragments.specs.in_ground.Reach.{meant_fragments}
+use Rattle.rule_fragments.specs.in_reach.NotedNames.{noted_names}
+use Rattle.rule_fragments.specs.in_reach.Reach.{meant_fragments}
 use Rattle.rule_fragments.specs.UnlessFull.{TellsUnlessFull}
 use Rattle.rule_selections.specs.Settled.{StandInEach}
 use Rattle.graphql_validation.specs.Operations.{OperationFails, AreReachesTyped, ReachesNamed, NotesNames}

@@ -7,8 +7,8 @@ use Rattle.rule_fragments.specs.Possible.{ArePossibleIfFound}
 use Rattle.rule_fragments.specs.in_schema.SchemaOf.{schema_tree}
 use Rattle.rule_fragments.specs.in_schema.declared.schema.Schema.{Schema}
 use Rattle.rule_document_definitions.specs.Reached.{AtOperation}
-use Rattle.rule_fragments.specs.in_ground.NotedNames.{noted_names}
-use Rattle.rule_fragments.specs.in_ground.Reach.{meant_fragments}
+use Rattle.rule_fragments.specs.in_reach.NotedNames.{noted_names}
+use Rattle.rule_fragments.specs.in_reach.Reach.{meant_fragments}
 use Rattle.rule_fragments.specs.UnlessFull.{HasAll, AddsUnlessFull}
 use Rattle.rule_selections.specs.Settled.{ApplyWhereNoted, StandInEach}
 use Rattle.graphql_validation.proofs.Settled.{lent_or}

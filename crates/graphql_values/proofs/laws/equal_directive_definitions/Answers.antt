@@ -1,5 +1,5 @@
 use Rattle.std.proofs.Common.{rules}
-use Rattle.graphql_values.proofs.DirectiveEquality.{directive_definition_eq-Decides}
+use Rattle.tree_operations.proofs.DirectiveEquality.{directive_definition_eq-Decides}
 use Rattle.graphql_values.proofs.laws.equal_directive_definitions.Goals as goal
 
 pub returns : goal.returns

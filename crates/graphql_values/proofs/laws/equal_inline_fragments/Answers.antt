@@ -1,5 +1,5 @@
 use Rattle.std.proofs.Common.{rules}
-use Rattle.graphql_values.proofs.SelectionEquality.{inline_eq-Decides}
+use Rattle.tree_operations.proofs.SelectionEquality.{inline_eq-Decides}
 use Rattle.graphql_values.proofs.laws.equal_inline_fragments.Goals as goal
 
 pub returns : goal.returns

@@ -1,5 +1,5 @@
 use Rattle.std.proofs.Common.{rules}
-use Rattle.graphql_values.proofs.DirectiveEquality.{input_value_eq-Decides}
+use Rattle.tree_operations.proofs.DirectiveEquality.{input_value_eq-Decides}
 use Rattle.graphql_values.proofs.laws.equal_input_values.Goals as goal
 
 pub returns : goal.returns

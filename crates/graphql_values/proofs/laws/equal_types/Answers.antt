@@ -1,5 +1,5 @@
 use Rattle.std.proofs.Common.{rules}
-use Rattle.graphql_values.proofs.TypeEquality.{type_eq-Decides}
+use Rattle.tree_operations.proofs.TypeEquality.{type_eq-Decides}
 use Rattle.graphql_values.proofs.laws.equal_types.Goals as goal
 
 pub returns : goal.returns

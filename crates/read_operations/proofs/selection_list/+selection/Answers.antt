@@ -15,7 +15,7 @@ use Rattle.read_grammar.proofs.Views.{selections_viewed}
 use Rattle.read_grammar.specs.Places.{place_in}
 use Rattle.read_operations.specs.SelectionSteps as steps
 use Rattle.read_operations.specs.PartViews.{Ends, selections_view, set_view, field_head_view, inline_head_view}
-use Rattle.read_operations.proofs.SelectionRules.{ends_reads, field_is, inline_is, dots_spread, dots_inline, selection_field, selection_dots}
+use Rattle.read_operations.proofs.SelectionRules.{ends_reads, field_is, inline_is, spread_or_inline_spread, spread_or_inline_inline, selection_field, selection_spread_or_inline}
 use Rattle.read_operations.specs.Meanings.{in_file}
 use Rattle.read_operations.proofs.selection_list.+selection.Goals as goal
 
@@ -51,15 +51,15 @@ some_selections-returns-in_err-selection t c =
     let p = err_from_is_err_and c.from_residual.result c.from_residual.ensures.1 in
     rw (p.1, p.2) (turn_stops_with begins.begins_selection (item c.args.file c.args.depth) (map selection_tree c.turns.found.items) c.turns.tokens _ c.selection.new.tokens _ c.turns.invariant goes c.in_err-selection.ensures)
 
-pub dots-returns-then-next_is_fragment_name : goal.dots-returns-then-next_is_fragment_name
-dots-returns-then-next_is_fragment_name t c =
+pub spread_or_inline-returns-then-next_is_fragment_name : goal.spread_or_inline-returns-then-next_is_fragment_name
+spread_or_inline-returns-then-next_is_fragment_name t c =
     let goes : next_is is_fragment_name (next c.expect.new.tokens) ≡ true = cc in
-    rw (dots_spread (in_file c.args.file) c.args.depth (reading.selection_set (in_file c.args.file) c.args.depth) c.args.tokens.now c.expect.new.tokens c.in_ok-expect.ensures goes) (search rules)
+    rw (spread_or_inline_spread (in_file c.args.file) c.args.depth (reading.selection_set (in_file c.args.file) c.args.depth) c.args.tokens.now c.expect.new.tokens c.in_ok-expect.ensures goes) (search rules)
 
-pub dots-returns : goal.dots-returns
-dots-returns t c =
+pub spread_or_inline-returns : goal.spread_or_inline-returns
+spread_or_inline-returns t c =
     let other : next_is is_fragment_name (next c.expect.new.tokens) ≡ false = cc in
-    rw (dots_inline (in_file c.args.file) c.args.depth (reading.selection_set (in_file c.args.file) c.args.depth) c.args.tokens.now c.expect.new.tokens c.in_ok-expect.ensures other) (search rules)
+    rw (spread_or_inline_inline (in_file c.args.file) c.args.depth (reading.selection_set (in_file c.args.file) c.args.depth) c.args.tokens.now c.expect.new.tokens c.in_ok-expect.ensures other) (search rules)
 
 pub placed_inline-returns-in_err-head : goal.placed_inline-returns-in_err-head
 placed_inline-returns-in_err-head t c = rw (inline_is (in_file c.args.file) c.args.begin c.args.depth (reading.selection_set (in_file c.args.file) c.args.depth) c.args.tokens.now) (search rules)
@@ -85,7 +85,7 @@ selection-returns-then-next_is_name t c =
 pub selection-returns : goal.selection-returns
 selection-returns t c =
     let other : next_is is_name (next c.args.tokens.now) ≡ false = cc in
-    rw (selection_dots (in_file c.args.file) c.args.depth (reading.selection_set (in_file c.args.file) c.args.depth) c.args.tokens.now other) c.dots.ensures
+    rw (selection_spread_or_inline (in_file c.args.file) c.args.depth (reading.selection_set (in_file c.args.file) c.args.depth) c.args.tokens.now other) c.spread_or_inline.ensures
 
 pub selection_set-returns-in_err-open : goal.selection_set-returns-in_err-open
 unfolding reading.selection_list

@@ -20,8 +20,8 @@ decreases-placed_inline l = 5 * l.depth + 1
 abbrev pub decreases-placed_field : goal.decreases-placed_field
 decreases-placed_field l = 5 * l.depth + 2
 
-abbrev pub decreases-dots : goal.decreases-dots
-decreases-dots l = 5 * l.depth + 2
+abbrev pub decreases-spread_or_inline : goal.decreases-spread_or_inline
+decreases-spread_or_inline l = 5 * l.depth + 2
 
 abbrev pub decreases-selection : goal.decreases-selection
 decreases-selection l = 5 * l.depth + 3

@@ -3,7 +3,7 @@ use Rattle.std.specs.Prelude.{Contains}
 use Rattle.std.proofs.lemmas.List.Elements.{Contains-get_or}
 use Rattle.rule_cycle_search.specs.declared.steps.Step.{Step}
 use Rattle.rule_cycle_search.specs.Graph.{listed, references}
-use Rattle.rule_cycle_search.specs.Steps.{is_in, IsIn}
+use Rattle.rule_cycle_search.specs.NodeSteps.{is_in, IsIn}
 use Rattle.rule_cycle_search.proofs.Parting.{in_center}
 use Rattle.rule_cycle_search.proofs.Counting.{HasMost, most_at, way_more, way_less}
 use Rattle.rule_cycle_search.proofs.depths.depth_of.Goals as goal

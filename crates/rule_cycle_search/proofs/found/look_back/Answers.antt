@@ -2,7 +2,7 @@ use Rattle.std.proofs.Common.{◌≡◌, ℕ, subst, List, false}
 use Rattle.std.specs.Prelude.{Contains}
 use Rattle.rule_cycle_search.specs.declared.steps.Step.{Step}
 use Rattle.rule_cycle_search.specs.Graph.{listed}
-use Rattle.rule_cycle_search.specs.Steps.{is_in, IsIn}
+use Rattle.rule_cycle_search.specs.NodeSteps.{is_in, IsIn}
 use Rattle.rule_cycle_search.proofs.Parting.{in_center, none_back}
 use Rattle.rule_cycle_search.proofs.found.look_back.Goals as goal
 

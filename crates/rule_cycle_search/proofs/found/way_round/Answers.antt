@@ -1,7 +1,7 @@
 use Rattle.std.proofs.Common.{◌≡◌, drop, take, [], ◌∷◌, ◌++◌, sym, ap, subst, ◌∙◌}
 use Rattle.std.specs.Prelude.{Contains}
 use Rattle.std.proofs.lemmas.List.Elements.{Contains-push}
-use Rattle.rule_cycle_search.specs.Steps.{IsIn}
+use Rattle.rule_cycle_search.specs.NodeSteps.{IsIn}
 use Rattle.rule_cycle_search.specs.Graph.{IsWayBack, AreTooMany}
 use Rattle.rule_cycle_search.specs.Ways.{Follows, Joins}
 use Rattle.rule_cycle_search.proofs.Parting.{part_of}

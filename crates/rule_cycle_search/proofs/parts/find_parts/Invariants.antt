@@ -1,5 +1,5 @@
 use Rattle.std.proofs.Common.{◌≡◌, ℕ, ◌<◌, false}
-use Rattle.rule_cycle_search.specs.Steps.{is_in}
+use Rattle.rule_cycle_search.specs.NodeSteps.{is_in}
 use Rattle.rule_cycle_search.specs.Parts.{nowhere, IsParted}
 use Rattle.rule_cycle_search.proofs.parts.find_parts.Given as goal
 

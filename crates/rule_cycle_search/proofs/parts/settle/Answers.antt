@@ -1,7 +1,7 @@
 use Rattle.std.proofs.Common.{◌≡◌, ◌∙◌, ℕ, ◌<◌, List, length, false, sym, ap, subst, arith}
 use Rattle.std.proofs.lemmas.Result.{on_ok_weaker}
 use Rattle.rule_cycle_search.specs.declared.steps.Step.{Step}
-use Rattle.rule_cycle_search.specs.Steps.{is_in, IsIn}
+use Rattle.rule_cycle_search.specs.NodeSteps.{is_in, IsIn}
 use Rattle.rule_cycle_search.specs.Spread.{Spreads}
 use Rattle.rule_cycle_search.specs.Parts.{nowhere}
 use Rattle.rule_cycle_search.proofs.Sets.{in_within}

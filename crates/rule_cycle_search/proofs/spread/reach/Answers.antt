@@ -1,7 +1,7 @@
 use Rattle.std.proofs.Common.{◌≡◌, ℕ, ◌+◌, ◌<◌, ◌++◌, ◌∷◌, [], false, length, get_or, take, sym, ap, subst, ◌∙◌, arith, true≢false, List}
 use Rattle.std.proofs.lemmas.List.{take_more, take_all}
 use Rattle.rule_cycle_search.specs.declared.steps.Step.{Step}
-use Rattle.rule_cycle_search.specs.Steps.{is_in, IsIn}
+use Rattle.rule_cycle_search.specs.NodeSteps.{is_in, IsIn}
 use Rattle.rule_cycle_search.specs.Spread.{Reaches}
 use Rattle.rule_cycle_search.proofs.Sets.{in_within}
 use Rattle.rule_cycle_search.proofs.Spreading.{Reaches-pass, Reaches-mark}

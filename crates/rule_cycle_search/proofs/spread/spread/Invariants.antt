@@ -1,5 +1,5 @@
 use Rattle.std.proofs.Common.{◌-◌, ◌+◌, length}
-use Rattle.rule_cycle_search.specs.Steps.{left}
+use Rattle.rule_cycle_search.specs.NodeSteps.{left}
 use Rattle.rule_cycle_search.specs.Spread.{Spreading}
 use Rattle.rule_cycle_search.proofs.spread.spread.Given as goal
 

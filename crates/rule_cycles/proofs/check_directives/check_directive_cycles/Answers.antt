@@ -2,16 +2,19 @@ use Rattle.std.proofs.Common.{◌≡◌, ◌∙◌, Some, List, length, sym, ap,
 use Rattle.std.specs.Prelude.{slice_get}
 use Rattle.std.proofs.lemmas.Option.{slice_get-get_or}
 use Rattle.fault_data.specs.FaultView.{faults_of}
-use Rattle.fault_data.specs.in_rule_definitions.Told.{PlacedFault}
+use Rattle.fault_data.specs.in_rule_definitions.PlacedFaults.{PlacedFault}
 use Rattle.rule_cycle_search.specs.declared.found.Found.{Found}
 use Rattle.rule_cycle_search.specs.Found.{Finds}
 use Rattle.rule_cycles.specs.DirectiveFaults.{TellsDirective, TellsDeepDirective}
 use Rattle.rule_cycles.specs.Telling.{TellsRoot, TellsRoots}
 use Rattle.rule_cycles.specs.Trees.{schema_of}
 use Rattle.rule_cycles.proofs.Telling.{TellsRoots-none, TellsRoots-more}
-use Rattle.rule_cycles.proofs.DirectivesTold.{directives_told}
+use Rattle.rule_cycles.proofs.DirectivesTold.{directives_told, flat_told}
 use Rattle.rule_cycles.proofs.check_directives.check_directive_cycles.Goals as goal
 use Rattle.rule_cycles.proofs.check_directives.check_directive_cycles.Goals.{in-Nothing, in-WayBack+in_ok-recursive_directive_definition-in-WayBack, in-Deep+in_ok-deeply_nested_directive-in-Deep}
+
+pub returns-then-flat : goal.returns-then-flat
+returns-then-flat c = flat_told (schema_of c.args.judging.now) c.requires (c.in_ok-flat.ensures c.if-flat.true) (faults_of c.args.faults.now)
 
 pub loop-root-init : goal.loop-root-init
 loop-root-init c = TellsRoots-none (TellsDirective (schema_of c.args.judging.now)) (TellsDeepDirective (schema_of c.args.judging.now)) c.in_ok-references.references.graph (faults_of c.args.faults.now)

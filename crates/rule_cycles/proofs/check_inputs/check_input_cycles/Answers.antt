@@ -2,7 +2,7 @@ use Rattle.std.proofs.Common.{◌≡◌, ◌∙◌, Some, List, length, sym, ap,
 use Rattle.std.specs.Prelude.{slice_get}
 use Rattle.std.proofs.lemmas.Option.{slice_get-get_or}
 use Rattle.fault_data.specs.FaultView.{faults_of}
-use Rattle.fault_data.specs.in_rule_definitions.Told.{PlacedFault}
+use Rattle.fault_data.specs.in_rule_definitions.PlacedFaults.{PlacedFault}
 use Rattle.rule_cycle_search.specs.declared.found.Found.{Found}
 use Rattle.rule_cycle_search.specs.Found.{Finds}
 use Rattle.rule_cycles.specs.FaultLists.{TellsInput, TellsDeepInput}

@@ -6,7 +6,7 @@ use Rattle.tree_directives.specs.DirectiveTree.{directive_definition_tree}
 use Rattle.schema_types.specs.TypeView.{name_text}
 use Rattle.fault_data.specs.in_rule_definitions.Diagnostics.{DeeplyNestedType}
 use Rattle.fault_data.specs.in_rule_definitions.Faults.{wrong}
-use Rattle.fault_data.specs.in_rule_definitions.Told.{PlacedFault}
+use Rattle.fault_data.specs.in_rule_definitions.PlacedFaults.{PlacedFault}
 use Rattle.rule_cycles.specs.DirectiveFaults.{AtHead, deep_directive}
 use Rattle.rule_cycles.specs.Trees.{schema_of}
 use Rattle.rule_cycles.proofs.Numbering.{seen_entry}

@@ -7,7 +7,7 @@ use Rattle.tree_directives.specs.DirectiveTree.{directive_tree, directive_defini
 use Rattle.schema_types.specs.TypeView.{name_text}
 use Rattle.fault_data.specs.in_rule_definitions.Diagnostics.{RecursiveDirectiveDefinition}
 use Rattle.fault_data.specs.in_rule_definitions.Faults.{wrong}
-use Rattle.fault_data.specs.in_rule_definitions.Told.{PlacedFault}
+use Rattle.fault_data.specs.in_rule_definitions.PlacedFaults.{PlacedFault}
 use Rattle.fault_data.specs.DiagnosticView.{plain_directive}
 use Rattle.rule_cycles.specs.Labels.{along}
 use Rattle.rule_cycles.specs.DirectiveFaults.{directives_of, AtHead, recursive_directive, use_trace, plain_use}

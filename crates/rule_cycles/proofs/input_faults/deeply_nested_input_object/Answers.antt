@@ -4,7 +4,7 @@ use Rattle.std.proofs.lemmas.Result.{on_ok_weaker}
 use Rattle.schema_types.specs.TypeView.{name_text, extended_type}
 use Rattle.fault_data.specs.in_rule_definitions.Diagnostics.{DeeplyNestedType}
 use Rattle.fault_data.specs.in_rule_definitions.Faults.{wrong}
-use Rattle.fault_data.specs.in_rule_definitions.Told.{PlacedFault}
+use Rattle.fault_data.specs.in_rule_definitions.PlacedFaults.{PlacedFault}
 use Rattle.rule_cycles.proofs.Numbering.{found_entry}
 use Rattle.rule_cycles.proofs.input_faults.deeply_nested_input_object.Goals as goal
 

@@ -7,7 +7,7 @@ use Rattle.tree_directives.specs.DirectiveTree.{input_value_tree}
 use Rattle.schema_types.specs.TypeView.{name_text, extended_type}
 use Rattle.fault_data.specs.in_rule_definitions.Diagnostics.{RecursiveInputObjectDefinition}
 use Rattle.fault_data.specs.in_rule_definitions.Faults.{wrong}
-use Rattle.fault_data.specs.in_rule_definitions.Told.{PlacedFault}
+use Rattle.fault_data.specs.in_rule_definitions.PlacedFaults.{PlacedFault}
 use Rattle.fault_data.specs.DiagnosticView.{plain_input}
 use Rattle.rule_cycles.specs.Labels.{along}
 use Rattle.rule_cycles.specs.FaultLists.{input_trace, plain_field}

@@ -1,6 +1,6 @@
 use Rattle.std.proofs.Common.{◌≡◌, ◌∙◌, ◌<◌, ◌++◌, ℕ, [], List, length, get_or, sym, subst, append-nil, arith}
 use Rattle.std.proofs.lemmas.List.{take_all, get_or_default}
-use Rattle.rule_number_lists.specs.NumberRows.{rows_of}
+use Rattle.list_interner.specs.NumberRows.{rows_of}
 use Rattle.rule_field_groups.specs.Under.{joined, twos_of}
 use Rattle.rule_field_groups.proofs.Under.{twos_more}
 use Rattle.rule_field_groups.proofs.below.push_apart.Goals as goal

@@ -1,5 +1,5 @@
 use Rattle.std.proofs.Common.{◌≡◌, ◌++◌, [], take}
-use Rattle.rule_number_lists.specs.NumberRows.{rows_of}
+use Rattle.list_interner.specs.NumberRows.{rows_of}
 use Rattle.rule_field_groups.specs.Under.{joined, twos_of}
 use Rattle.rule_field_groups.proofs.below.push_apart.Given as goal
 

@@ -3,7 +3,7 @@ use Rattle.std.proofs.lemmas.List.{take_all}
 use Rattle.std.proofs.lemmas.Result.{on_ok_weaker}
 use Rattle.rule_field_sets.specs.declared.member.Member.{Member}
 use Rattle.rule_field_groups.specs.Members.{fields_of, meant_sets}
-use Rattle.rule_number_lists.specs.NumberRows.{rows_of}
+use Rattle.list_interner.specs.NumberRows.{rows_of}
 use Rattle.rule_field_groups.specs.Below.{AreSetsOf}
 use Rattle.rule_field_groups.specs.Under.{JoinsSets}
 use Rattle.rule_field_groups.proofs.Sets.{sets_begun, sets_step}

@@ -1,6 +1,6 @@
 use Rattle.std.proofs.Common.{◌∙◌, sym}
 use Rattle.std.proofs.lemmas.Result.{on_ok_weaker}
-use Rattle.rule_number_lists.specs.NumberRows.{rows_of}
+use Rattle.list_interner.specs.NumberRows.{rows_of}
 use Rattle.rule_field_groups.proofs.Under.{joins_none, joins_some}
 use Rattle.rule_field_groups.proofs.below.push_joined.Goals as goal
 

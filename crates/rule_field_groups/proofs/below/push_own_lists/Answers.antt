@@ -1,12 +1,11 @@
-use Rattle.std.proofs.Common.{◌<◌, ℕ, List, map, length, Contains, sym, subst, arith}
+use Rattle.std.proofs.Common.{◌<◌, ℕ, List, map, length, Contains, sym, subst, arith, Vec, Global}
 use Rattle.std.proofs.lemmas.List.{take_all}
 use Rattle.std.proofs.lemmas.List.Elements.{Contains-get_or}
-use Rattle.rule_same_values.proofs.in_document_definitions.Unplaced.{contains_map}
+use Rattle.rule_selection_queries.proofs.in_document_definitions.Unplaced.{contains_map}
 use Rattle.rule_field_groups.specs.Members.{fields_of, meant_sets, AreMembersOf}
 use Rattle.rule_field_sets.specs.Read.{set_at}
 use Rattle.rule_field_sets.specs.declared.member.Member.{Member}
-use Rattle.rule_field_groups.specs.declared.groups.OwnFields.{OwnFields}
-use Rattle.rule_number_lists.specs.NumberRows.{rows_of}
+use Rattle.list_interner.specs.NumberRows.{rows_of}
 use Rattle.rule_field_groups.specs.Under.{sets_in, AreFurther, PutsTogether, JoinsEach}
 use Rattle.rule_field_groups.proofs.Under.{none_joined, joined_more, map_together}
 use Rattle.rule_field_groups.proofs.below.push_own_lists.Goals as goal
@@ -22,7 +21,7 @@ further_sets-requires-clause-members c =
     let h : i < length owns = omega arith in
     let there : Contains owns x = subst (Contains owns) (sym c.own-item.is) (Contains-get_or owns i x h) in
     subst (λ (l : List Member). AreMembersOf c.args.sets.now l) (sym c.deref.ensures.value)
-    (c.requires.members x.fields.items (contains_map (λ (o : OwnFields). o.fields.items) owns x there))
+    (c.requires.members x.items (contains_map (λ (o : Vec Member Global). o.items) owns x there))
 
 pub loop-own-preserved : goal.loop-own-preserved
 loop-own-preserved c =
@@ -43,5 +42,5 @@ loop-own-preserved c =
 
 pub returns : goal.returns
 returns c =
-    subst (λ (l : List OwnFields). JoinsEach (meant_sets c.args.sets.now c.args.shared.now.nodes.items) (map (λ o. fields_of o.fields.items) l) (sets_in c.args.sets.now c.args.lists.now) (sets_in c.args.sets.now c.loop-own.lists))
+    subst (λ (l : List (Vec Member Global)). JoinsEach (meant_sets c.args.sets.now c.args.shared.now.nodes.items) (map (λ o. fields_of o.items) l) (sets_in c.args.sets.now c.args.lists.now) (sets_in c.args.sets.now c.loop-own.lists))
     (take_all c.loop-own.own-index c.args.owns.now c.loop-own-test.false) c.loop-own.invariant

@@ -1,5 +1,5 @@
 use Rattle.std.proofs.lemmas.Result.{on_ok_weaker}
-use Rattle.rule_number_lists.specs.NumberRows.{rows_of}
+use Rattle.list_interner.specs.NumberRows.{rows_of}
 use Rattle.rule_field_groups.proofs.Under.{joined_together, twos_together}
 use Rattle.rule_field_groups.proofs.below.push_together.Goals as goal
 

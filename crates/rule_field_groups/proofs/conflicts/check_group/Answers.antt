@@ -1,7 +1,7 @@
 use Rattle.std.proofs.Common.{sym, subst}
 use Rattle.std.proofs.lemmas.Result.{on_ok_weaker}
 use Rattle.rule_field_sets.specs.in_schema.SchemaOf.{schema_tree}
-use Rattle.rule_same_values.specs.in_definitions.Judged.{judged}
+use Rattle.rule_selection_queries.specs.in_definitions.Judged.{judged}
 use Rattle.rule_field_groups.specs.Members.{fields_of}
 use Rattle.rule_field_sets.specs.declared.member.Member.{Member}
 use Rattle.std.specs.Prelude.{List}

@@ -1,12 +1,11 @@
-use Rattle.std.proofs.Common.{◌<◌, ◌++◌, [], List, map, take, length, ap, subst, ◌∙◌, arith}
+use Rattle.std.proofs.Common.{◌<◌, ◌++◌, [], List, map, take, length, ap, subst, ◌∙◌, arith, Vec, Global}
 use Rattle.std.specs.List.{sum}
 use Rattle.std.proofs.lemmas.List.{take_all}
 use Rattle.std.proofs.lemmas.Simd.{map-map}
 use Rattle.rule_field_sets.specs.in_schema.SchemaOf.{schema_tree}
-use Rattle.rule_same_values.specs.in_definitions.Judged.{judged}
+use Rattle.rule_selection_queries.specs.in_definitions.Judged.{judged}
 use Rattle.rule_field_groups.specs.Members.{fields_of}
 use Rattle.rule_field_sets.specs.declared.member.Member.{Member}
-use Rattle.rule_field_groups.specs.declared.groups.OwnFields.{OwnFields}
 use Rattle.rule_field_groups.specs.Compared.{compared}
 use Rattle.rule_field_groups.specs.Passes.{AddsGroup, AddsEach}
 use Rattle.rule_field_groups.proofs.Counts.{left_of}
@@ -25,8 +24,8 @@ loop-own-init c =
         arith,
         c.check_group.ensures.counted,
         ap (compared c.args.pass) c.deref.ensures.value,
-        ap (λ l. sum (map (λ (o : OwnFields). compared c.args.pass o.fields.items) l)) c.deref-own-items.ensures.value,
-        ap sum (map-map (compared c.args.pass) (λ (o : OwnFields). o.fields.items) group.own.items),
+        ap (λ l. sum (map (λ (o : Vec Member Global). compared c.args.pass o.items) l)) c.deref-own-items.ensures.value,
+        ap sum (map-map (compared c.args.pass) (λ (o : Vec Member Global). o.items) group.own.items),
       );
     }
 
@@ -40,11 +39,18 @@ loop-own-preserved c =
     let inv = c.loop-own.invariant in
     let mid = c.loop-own.breaches in
     let new = c.check_own.new.breaches in
-    let here = subst (λ (l : List Member). AddsGroup c.args.pass s (fields_of (take 1 l ++ x.fields.items)) mid new) c.deref-in-loop-own.ensures.value c.in_ok-check_own.ensures.told in
+    let here = subst (λ (l : List Member). AddsGroup c.args.pass s (fields_of (take 1 l ++ x.items)) mid new) c.deref-in-loop-own.ensures.value
+    (subst (λ (l : List Member). AddsGroup c.args.pass s (fields_of (take 1 c.deref-in-loop-own.result.now ++ l)) mid new) c.deref-in-loop-own-2.ensures.value c.in_ok-check_own.ensures.told) in
     record {
       told = own_step c.args.pass s c.args.group.now.shared.items xs i x h c.own-item.is c.args.breaches.now mid new inv.told here;
       more = omega (arith, inv.more, c.check_own.ensures.more);
-      counted = omega (arith, inv.counted, c.check_own.ensures.counted, left_of (λ (o : OwnFields). compared c.args.pass o.fields.items) xs i x h c.own-item.is);
+      counted = omega (
+        arith,
+        inv.counted,
+        c.check_own.ensures.counted,
+        ap (compared c.args.pass) c.deref-in-loop-own-2.ensures.value,
+        left_of (λ (o : Vec Member Global). compared c.args.pass o.items) xs i x h c.own-item.is,
+      );
     }
 
 pub returns-in_err-check_group-clause-counted : goal.returns-in_err-check_group-clause-counted
@@ -59,14 +65,20 @@ returns-in_err-check_own-clause-counted c =
     let i = c.loop-own.own-index in
     let x = c.own-item.result in
     let h : i < length xs = omega arith in
-    omega (arith, c.loop-own.invariant.counted, c.check_own.ensures.counted, left_of (λ (o : OwnFields). compared c.args.pass o.fields.items) xs i x h c.own-item.is)
+    omega (
+      arith,
+      c.loop-own.invariant.counted,
+      c.check_own.ensures.counted,
+      ap (compared c.args.pass) c.deref-in-loop-own-2.ensures.value,
+      left_of (λ (o : Vec Member Global). compared c.args.pass o.items) xs i x h c.own-item.is,
+    )
 
 pub returns-clause-told : goal.returns-clause-told
 returns-clause-told c =
     let s = judged (schema_tree c.args.schema.now) in
     let group = c.args.group.now in
     all_parts c.args.pass s group.shared.items group.own.items c.args.breaches.now c.loop-own.breaches
-    (subst (λ (l : List OwnFields). AddsEach c.args.pass s (with_first c.args.pass s (fields_of group.shared.items) (map (λ o. fields_of o.fields.items) l)) c.args.breaches.now c.loop-own.breaches)
+    (subst (λ (l : List (Vec Member Global)). AddsEach c.args.pass s (with_first c.args.pass s (fields_of group.shared.items) (map (λ o. fields_of o.items) l)) c.args.breaches.now c.loop-own.breaches)
     (take_all c.loop-own.own-index c.deref-own-items.result.now c.loop-own-test.false ∙ c.deref-own-items.ensures.value) c.loop-own.invariant.told)
 
 pub returns-clause-counted : goal.returns-clause-counted

@@ -1,6 +1,6 @@
 use Rattle.std.proofs.Common.{◌≡◌, filter, take}
 use Rattle.rule_field_sets.specs.in_schema.SchemaOf.{schema_tree}
-use Rattle.rule_same_values.specs.in_definitions.Judged.{judged}
+use Rattle.rule_selection_queries.specs.in_definitions.Judged.{judged}
 use Rattle.rule_field_groups.specs.KeyGroups.{is_shared}
 use Rattle.rule_field_groups.proofs.groups.abstract_fields.Given as goal
 

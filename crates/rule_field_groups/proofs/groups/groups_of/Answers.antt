@@ -4,7 +4,7 @@ use Rattle.std.proofs.lemmas.Iterator.Adapters.{YieldsList-from_vec}
 use Rattle.std.proofs.lemmas.Iterator.Consumers.{YieldsList-end}
 use Rattle.std.proofs.lemmas.List.{map-id}
 use Rattle.rule_field_sets.specs.in_schema.SchemaOf.{schema_tree}
-use Rattle.rule_same_values.specs.in_definitions.Judged.{judged}
+use Rattle.rule_selection_queries.specs.in_definitions.Judged.{judged}
 use Rattle.rule_field_sets.specs.declared.member.Member.{Member}
 use Rattle.rule_field_groups.specs.declared.groups.KeyGroup.{KeyGroup}
 use Rattle.rule_field_groups.specs.Compared.{compared}

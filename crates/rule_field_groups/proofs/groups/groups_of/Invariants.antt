@@ -1,7 +1,7 @@
 use Rattle.std.proofs.Common.{◌≡◌, ◌≤◌, map, flat_map, length}
 use Rattle.std.specs.List.{sum}
 use Rattle.rule_field_sets.specs.in_schema.SchemaOf.{schema_tree}
-use Rattle.rule_same_values.specs.in_definitions.Judged.{judged}
+use Rattle.rule_selection_queries.specs.in_definitions.Judged.{judged}
 use Rattle.rule_field_groups.specs.Compared.{compared}
 use Rattle.rule_field_groups.specs.KeyGroups.{parts_in, lists_in_group, compared_in}
 use Rattle.rule_field_groups.proofs.Sharing.{ArePartsOfEach, ArePartsOfOne}

@@ -1,7 +1,7 @@
 use Rattle.std.proofs.Common.{◌≡◌, [], ◌∷◌, ◌++◌, ap, ◌∙◌}
 use Rattle.indexmap.specs.IndexMap.{insert_entry}
 use Rattle.indexmap.proofs.CallerLemmas.{insert_entry-new}
-use Rattle.rule_same_values.specs.in_definitions.in_components.Names.{same_text}
+use Rattle.rule_selection_queries.specs.in_definitions.in_components.Names.{same_text}
 use Rattle.schema_types.specs.TypeView.{name_text}
 use Rattle.schema_fold_index.proofs.Under.{under_new}
 use Rattle.rule_field_groups.proofs.Filing.{count_new}

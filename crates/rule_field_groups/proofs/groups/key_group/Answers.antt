@@ -1,7 +1,7 @@
 use Rattle.std.proofs.Common.{◌≤◌, [], ◌∷◌, length, ap, sym, subst, ◌∙◌}
 use Rattle.std.proofs.lemmas.Result.{IfOk-weaker}
 use Rattle.rule_field_sets.specs.in_schema.SchemaOf.{schema_tree}
-use Rattle.rule_same_values.specs.in_definitions.Judged.{judged}
+use Rattle.rule_selection_queries.specs.in_definitions.Judged.{judged}
 use Rattle.rule_field_groups.specs.declared.groups.KeyGroup.{KeyGroup}
 use Rattle.rule_field_groups.specs.declared.pass.Pass.{Pass}
 use Rattle.rule_field_groups.specs.Compared.{compared}

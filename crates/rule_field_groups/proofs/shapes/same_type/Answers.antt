@@ -1,8 +1,8 @@
 use Rattle.std.proofs.Common.{◌≡◌, ◌&&◌, ap, sym, ◌∙◌}
 use Rattle.tree_literals.specs.TypeTree.{type_tree, unplaced_type}
 use Rattle.rule_field_sets.specs.in_schema.SchemaOf.{schema_tree}
-use Rattle.rule_same_values.specs.in_definitions.Judged.{judged}
-use Rattle.rule_same_values.specs.in_definitions.Names.{named_in}
+use Rattle.rule_selection_queries.specs.in_definitions.Judged.{judged}
+use Rattle.rule_selection_queries.specs.in_definitions.Names.{named_in}
 use Rattle.rule_field_groups.specs.Shapes.{same_inner}
 use Rattle.rule_field_groups.proofs.Shaped.{named_unplaced}
 use Rattle.rule_field_groups.proofs.shapes.same_type.Goals as goal

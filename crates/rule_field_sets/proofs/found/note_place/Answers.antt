@@ -1,4 +1,4 @@
-use Rattle.document_walks.proofs.Standings.{noted_some, noted_none}
+use Rattle.document_typed_operations.proofs.Standings.{noted_some, noted_none}
 use Rattle.rule_field_sets.proofs.found.note_place.Goals as goal
 
 pub returns-in_ok-insert : goal.returns-in_ok-insert

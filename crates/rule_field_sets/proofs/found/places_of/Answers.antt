@@ -1,5 +1,5 @@
 use Rattle.std.proofs.Common.{◌<◌, length, arith}
-use Rattle.document_walks.specs.WalkView.{fragments_tree}
+use Rattle.document_typed_operations.specs.WalkView.{fragments_tree}
 use Rattle.rule_field_sets.proofs.Places.{places_begun, places_step}
 use Rattle.rule_field_sets.proofs.found.places_of.Goals as goal
 

@@ -1,5 +1,5 @@
 use Rattle.std.proofs.Common.{take}
-use Rattle.document_walks.specs.WalkView.{fragments_tree}
+use Rattle.document_typed_operations.specs.WalkView.{fragments_tree}
 use Rattle.rule_field_sets.specs.Found.{texts_of, ArePlaces}
 use Rattle.rule_field_sets.proofs.found.places_of.Given as goal
 

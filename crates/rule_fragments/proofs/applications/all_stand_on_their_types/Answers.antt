@@ -1,5 +1,5 @@
 use Rattle.std.proofs.Common.{◌<◌, map, length, sym, ap, ◌∙◌, arith}
-use Rattle.rule_document_ground.specs.Reach.{member_of, meant_fragments}
+use Rattle.rule_reach.specs.Reach.{member_of, meant_fragments}
 use Rattle.rule_fragments.specs.Applied.{stands_on_its_type, all_stand_on_their_types}
 use Rattle.rule_fragments.proofs.Telling.{tested_more, tested_false, tested_all}
 use Rattle.rule_fragments.proofs.applications.all_stand_on_their_types.Goals as goal

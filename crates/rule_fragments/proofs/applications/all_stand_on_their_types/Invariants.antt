@@ -1,5 +1,5 @@
 use Rattle.std.proofs.Common.{◌≡◌, true, map, take}
-use Rattle.rule_document_ground.specs.Reach.{member_of, meant_fragments}
+use Rattle.rule_reach.specs.Reach.{member_of, meant_fragments}
 use Rattle.rule_fragments.specs.Applied.{all_stand_on_their_types}
 use Rattle.rule_fragments.proofs.applications.all_stand_on_their_types.Given as goal
 

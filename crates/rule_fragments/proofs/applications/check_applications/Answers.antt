@@ -2,7 +2,7 @@ use Rattle.std.proofs.Common.{sym, ◌∙◌, subst}
 use Rattle.rule_cycles.specs.in_schema.SchemaOf.{schema_tree}
 use Rattle.fault_data.specs.FaultView.{faults_of}
 use Rattle.rule_definitions.specs.Judged.{judged}
-use Rattle.rule_document_ground.specs.Reach.{meant_fragments, reached_members, reached_fragments_of}
+use Rattle.rule_reach.specs.Reach.{meant_fragments, reached_members, reached_fragments_of}
 use Rattle.rule_fragments.specs.Possible.{ArePossible, ArePossibleIfFound}
 use Rattle.rule_fragments.proofs.Spread.{gains_applications, gains_on_their_types}
 use Rattle.rule_fragments.proofs.applications.check_applications.Goals as goal

@@ -4,7 +4,7 @@ use Rattle.std.specs.Option.{option_map, option_map_or}
 use Rattle.rule_cycles.specs.in_schema.SchemaOf.{schema_tree}
 use Rattle.fault_data.specs.FaultView.{faults_of}
 use Rattle.rule_definitions.specs.Room.{◌⊕◌}
-use Rattle.rule_document_ground.specs.Reach.{member_of, meant_fragments}
+use Rattle.rule_reach.specs.Reach.{member_of, meant_fragments}
 use Rattle.rule_fragments.specs.Applied.{ApplicationTree, application_tree, application_fault, invalid_fragment_spread}
 use Rattle.rule_fragments.proofs.Telling.{told_more, told_all}
 use Rattle.rule_fragments.proofs.applications.check_fragment_spreads.Goals.{in-Some+in_ok-invalid_fragment_spread, in_default}

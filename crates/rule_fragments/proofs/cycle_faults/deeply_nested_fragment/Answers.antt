@@ -4,7 +4,7 @@ use Rattle.graphql_names.specs.NameValue.{NameValue}
 use Rattle.document_typed_operations.specs.declared.operation.Fragment.{Fragment}
 use Rattle.rule_definitions.specs.Diagnostics.{DeeplyNestedType}
 use Rattle.rule_definitions.specs.Faults.{wrong}
-use Rattle.rule_definitions.specs.Told.{PlacedFault}
+use Rattle.rule_definitions.specs.PlacedFaults.{PlacedFault}
 use Rattle.rule_fragments.specs.SpreadViews.{fragment_meant}
 use Rattle.rule_fragments.specs.CycleFaults.{IsDeepFault}
 use Rattle.rule_fragments.proofs.cycle_faults.deeply_nested_fragment.Goals as goal

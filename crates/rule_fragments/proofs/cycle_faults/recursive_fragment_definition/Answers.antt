@@ -4,7 +4,7 @@ use Rattle.graphql_names.specs.NameValue.{NameValue}
 use Rattle.document_typed_operations.specs.declared.operation.Fragment.{Fragment}
 use Rattle.rule_definitions.specs.Diagnostics.{RecursiveFragmentDefinition}
 use Rattle.rule_definitions.specs.Faults.{wrong}
-use Rattle.rule_definitions.specs.Told.{PlacedFault}
+use Rattle.rule_definitions.specs.PlacedFaults.{PlacedFault}
 use Rattle.rule_fragments.specs.SpreadViews.{fragment_meant, spread_tree}
 use Rattle.rule_fragments.specs.CycleFaults.{spread_trace, IsRecursiveFault}
 use Rattle.rule_fragments.proofs.cycle_faults.recursive_fragment_definition.Goals as goal

@@ -3,7 +3,7 @@ use Rattle.std.proofs.lemmas.Option.{slice_get-get_or}
 use Rattle.fault_data.specs.FaultView.{faults_of}
 use Rattle.rule_cycles.specs.Telling.{TellsRoots}
 use Rattle.rule_cycles.proofs.Telling.{TellsRoots-none, TellsRoots-more, TellsRoot-found}
-use Rattle.rule_document_ground.specs.NotedNames.{noted_names}
+use Rattle.rule_reach.specs.NotedNames.{noted_names}
 use Rattle.rule_fragments.specs.SpreadViews.{fragment_entries, lent_at}
 use Rattle.rule_fragments.specs.CycleFaults.{used_at, TellsRecursive, TellsDeep}
 use Rattle.rule_fragments.proofs.CyclesTold.{found_same}

@@ -1,6 +1,6 @@
 use Rattle.fault_data.specs.FaultView.{faults_of}
 use Rattle.rule_cycles.specs.Telling.{TellsRoots}
-use Rattle.rule_document_ground.specs.NotedNames.{noted_names}
+use Rattle.rule_reach.specs.NotedNames.{noted_names}
 use Rattle.rule_fragments.specs.SpreadViews.{fragment_entries}
 use Rattle.rule_fragments.specs.CycleFaults.{used_at, TellsRecursive, TellsDeep}
 use Rattle.rule_fragments.proofs.cycles.tell_cycles.Given as goal

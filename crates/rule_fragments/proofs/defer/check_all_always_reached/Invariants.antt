@@ -3,7 +3,7 @@ use Rattle.std.specs.List.{flat_map}
 use Rattle.rule_definitions.specs.Room.{◌⊕◌}
 use Rattle.rule_fragments.specs.Broken.{brokens_of}
 use Rattle.rule_fragments.specs.ListedBreaches.{always_deferred}
-use Rattle.rule_always.specs.Lent.{lent_all}
+use Rattle.rule_selection_queries.specs.Lent.{lent_all}
 use Rattle.rule_fragments.proofs.defer.check_all_always_reached.Given as goal
 
 abbrev pub invariant-loop-selection : goal.invariant-loop-selection

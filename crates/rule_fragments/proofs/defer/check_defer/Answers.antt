@@ -5,12 +5,12 @@ use Rattle.tree_directives.specs.declared.operation_type.OperationType.TheVarian
 use Rattle.document_typed_operations.specs.declared.operation.Operation.{Operation}
 use Rattle.rule_definitions.specs.Room.{◌⊕◌}
 use Rattle.rule_definitions.proofs.Room.{room_both}
-use Rattle.rule_always.specs.in_ground.in_typed_operations.DocumentView.{document_meant, operation_meant}
+use Rattle.rule_selection_queries.specs.in_reach.in_typed_operations.DocumentView.{document_meant, operation_meant}
 use Rattle.rule_fragments.specs.Broken.{brokens_of}
-use Rattle.rule_always.specs.Always.{AreAlways}
+use Rattle.rule_selection_queries.specs.Always.{AreAlways}
 use Rattle.rule_fragments.specs.ListedBreaches.{fragment_deferred, always_deferred}
 use Rattle.rule_fragments.specs.Rooted.{AreRoots}
-use Rattle.rule_always.specs.Lent.{lent_all}
+use Rattle.rule_selection_queries.specs.Lent.{lent_all}
 use Rattle.rule_fragments.proofs.Deferred.{of_mutation, of_subscription}
 use Rattle.rule_fragments.proofs.defer.check_defer.Goals as goal
 

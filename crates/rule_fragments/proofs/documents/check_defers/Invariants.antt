@@ -1,9 +1,9 @@
 use Rattle.std.proofs.Common.{◌≡◌, ◌++◌, map}
 use Rattle.rule_document_definitions.specs.Defer.{DeferBreaks}
 use Rattle.document_typed_operations.specs.OperationsByName.{left_operations}
-use Rattle.rule_always.specs.in_ground.in_typed_operations.DocumentView.{document_meant, operation_meant}
+use Rattle.rule_selection_queries.specs.in_reach.in_typed_operations.DocumentView.{document_meant, operation_meant}
 use Rattle.rule_document_definitions.specs.Selected.{operations}
-use Rattle.rule_always.specs.in_ground.Broken.{brokens_of}
+use Rattle.rule_selection_queries.specs.in_reach.Broken.{brokens_of}
 use Rattle.rule_fragments.specs.Documents.{SomeDeferBreaks}
 use Rattle.rule_fragments.specs.UnlessFull.{AddsUnlessFull}
 use Rattle.rule_fragments.proofs.Operations.{lent_operations}

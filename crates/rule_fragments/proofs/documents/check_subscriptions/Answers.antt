@@ -2,12 +2,12 @@ use Rattle.std.proofs.Common.{◌≡◌, false, ◌∙◌, ◌∷◌, [], ◌++�
 use Rattle.graphql_names.specs.Placed.{Place}
 use Rattle.document_typed_operations.specs.OperationsByName.{left_operations}
 use Rattle.document_typed_operations.specs.declared.document.ExecutableDocument.{ExecutableDocument}
-use Rattle.document_meaning.specs.MeantTree.{MeantOperation}
-use Rattle.rule_always.specs.in_ground.in_typed_operations.DocumentView.{document_meant, operation_meant}
+use Rattle.spec_document.specs.MeantTree.{MeantOperation}
+use Rattle.rule_selection_queries.specs.in_reach.in_typed_operations.DocumentView.{document_meant, operation_meant}
 use Rattle.rule_document_definitions.specs.DocumentFaults.{Broken}
 use Rattle.rule_document_definitions.specs.Selected.{operations}
 use Rattle.rule_document_definitions.specs.Subscriptions.{SubscriptionBreaks}
-use Rattle.rule_always.specs.in_ground.Broken.{brokens_of}
+use Rattle.rule_selection_queries.specs.in_reach.Broken.{brokens_of}
 use Rattle.rule_fragments.specs.Documents.{SomeSubscriptionBreaks}
 use Rattle.rule_fragments.specs.Thinned.{StandIn}
 use Rattle.rule_fragments.specs.UnlessFull.{HasAll}

@@ -1,6 +1,6 @@
 use Rattle.std.proofs.Common.{map, ap}
-use Rattle.rule_always.specs.in_ground.in_typed_operations.DocumentView.{document_meant}
-use Rattle.rule_always.specs.in_ground.Broken.{broken_of, brokens_of}
+use Rattle.rule_selection_queries.specs.in_reach.in_typed_operations.DocumentView.{document_meant}
+use Rattle.rule_selection_queries.specs.in_reach.Broken.{broken_of, brokens_of}
 use Rattle.rule_fragments.proofs.InDocuments.{deferred_told}
 use Rattle.rule_fragments.proofs.documents.deferred_breaches.Goals as goal
 

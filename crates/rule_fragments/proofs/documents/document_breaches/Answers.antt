@@ -1,5 +1,5 @@
-use Rattle.rule_always.specs.in_ground.in_typed_operations.DocumentView.{document_meant}
-use Rattle.rule_always.specs.in_ground.Broken.{brokens_of}
+use Rattle.rule_selection_queries.specs.in_reach.in_typed_operations.DocumentView.{document_meant}
+use Rattle.rule_selection_queries.specs.in_reach.Broken.{brokens_of}
 use Rattle.rule_fragments.proofs.InDocuments.{breaches_told}
 use Rattle.rule_fragments.proofs.documents.document_breaches.Goals as goal
 

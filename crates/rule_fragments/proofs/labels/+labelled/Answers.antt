@@ -1,7 +1,7 @@
 use Rattle.std.proofs.Common.{◌≤◌, length, true, subst}
 use Rattle.rule_fragments.specs.Labels.{values_meant, labels_of}
-use Rattle.rule_always.specs.Stays.{all_stay}
-use Rattle.rule_always.proofs.Sets.{told_contents}
+use Rattle.rule_selection_queries.specs.Stays.{all_stay}
+use Rattle.rule_selection_queries.proofs.Sets.{told_contents}
 use Rattle.rule_fragments.proofs.labels.+labelled.Goals as goal
 
 pub push_labels_in-returns : goal.push_labels_in-returns

@@ -1,7 +1,7 @@
 use Rattle.std.proofs.Common.{sym, subst, ◌≡◌}
 use Rattle.std.proofs.lemmas.Result.{on_ok_weaker}
 use Rattle.schema_components.specs.Lists.{each_place}
-use Rattle.rule_always.specs.in_ground.in_typed_operations.DocumentView.{document_meant}
+use Rattle.rule_selection_queries.specs.in_reach.in_typed_operations.DocumentView.{document_meant}
 use Rattle.rule_document_definitions.specs.DeferUses.{labels}
 use Rattle.rule_fragments.specs.Labels.{values_meant, label_breaks}
 use Rattle.rule_fragments.proofs.Labelled.{labels_told}

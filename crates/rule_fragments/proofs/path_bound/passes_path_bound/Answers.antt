@@ -1,5 +1,5 @@
 use Rattle.std.proofs.Common.{sym, ◌∙◌}
-use Rattle.rule_always.specs.in_ground.in_typed_operations.DocumentView.{document_meant}
+use Rattle.rule_selection_queries.specs.in_reach.in_typed_operations.DocumentView.{document_meant}
 use Rattle.rule_fragments.proofs.Bounded.{nests_passes, too_deep}
 use Rattle.rule_fragments.proofs.path_bound.passes_path_bound.Goals as goal
 

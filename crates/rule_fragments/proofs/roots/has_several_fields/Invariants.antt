@@ -3,8 +3,8 @@ use Rattle.graphql_names.specs.Node.{content}
 use Rattle.graphql_names.specs.Placed.{Place}
 use Rattle.document_typed_operations.specs.TypedDocument.{typed_document_tree}
 use Rattle.document_typed_selections.specs.TypedTree.{typed_set_tree}
-use Rattle.document_walks.specs.Reached.{Member, IsMemberWalk, document_fragments}
-use Rattle.document_walks.specs.Lending.{selections_left}
+use Rattle.document_typed_operations.specs.Reached.{Member, IsMemberWalk, document_fragments}
+use Rattle.document_typed_operations.specs.Lending.{selections_left}
 use Rattle.rule_fragments.specs.ListedBreaches.{field_count}
 use Rattle.rule_fragments.proofs.Counted.{one_if}
 use Rattle.rule_fragments.proofs.Lent.{members_lent}

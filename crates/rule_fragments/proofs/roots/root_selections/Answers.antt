@@ -3,13 +3,13 @@ use Rattle.graphql_names.specs.Node.{content}
 use Rattle.document_typed_operations.specs.TypedDocument.{typed_document_tree}
 use Rattle.document_typed_operations.specs.declared.operation.Operation.{Operation}
 use Rattle.document_typed_selections.specs.TypedTree.{typed_set_tree}
-use Rattle.document_walks.specs.Reached.{IsMemberWalk}
-use Rattle.document_walks.specs.WalkView.{fragments_tree, lent_member}
-use Rattle.document_walks.specs.Lending.{selections_left, selections_are_over}
-use Rattle.document_walks.proofs.Gathering.{lent_ok}
-use Rattle.document_walks.proofs.WalkLaws.{fragments_tree-document}
-use Rattle.rule_always.specs.in_ground.in_typed_operations.DocumentView.{operation_meant}
-use Rattle.rule_always.specs.Lent.{lent_all}
+use Rattle.document_typed_operations.specs.Reached.{IsMemberWalk}
+use Rattle.document_typed_operations.specs.WalkView.{fragments_tree, lent_member}
+use Rattle.document_typed_operations.specs.Lending.{selections_left, selections_are_over}
+use Rattle.document_typed_operations.proofs.Gathering.{lent_ok}
+use Rattle.document_typed_operations.proofs.WalkLaws.{fragments_tree-document}
+use Rattle.rule_selection_queries.specs.in_reach.in_typed_operations.DocumentView.{operation_meant}
+use Rattle.rule_selection_queries.specs.Lent.{lent_all}
 use Rattle.rule_fragments.proofs.Lent.{members_lent, taken, all_taken}
 use Rattle.rule_fragments.proofs.Rooted.{roots}
 use Rattle.rule_fragments.proofs.roots.root_selections.Goals as goal

@@ -3,9 +3,9 @@ use Rattle.graphql_names.specs.Node.{content}
 use Rattle.graphql_names.specs.Placed.{Place}
 use Rattle.document_typed_operations.specs.TypedDocument.{typed_document_tree}
 use Rattle.document_typed_selections.specs.TypedTree.{typed_set_tree}
-use Rattle.document_walks.specs.Reached.{Member, IsMemberWalk, document_fragments}
-use Rattle.document_walks.specs.Lending.{selections_left}
-use Rattle.rule_always.specs.Lent.{lent_all}
+use Rattle.document_typed_operations.specs.Reached.{Member, IsMemberWalk, document_fragments}
+use Rattle.document_typed_operations.specs.Lending.{selections_left}
+use Rattle.rule_selection_queries.specs.Lent.{lent_all}
 use Rattle.rule_fragments.proofs.Lent.{members_lent}
 use Rattle.rule_fragments.proofs.roots.root_selections.Given as goal
 

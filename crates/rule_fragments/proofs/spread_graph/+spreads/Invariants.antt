@@ -1,7 +1,7 @@
 use Rattle.std.proofs.Common.{◌≡◌, ◌++◌, map, take}
 use Rattle.std.specs.List.{flat_map}
 use Rattle.document_typed_selections.specs.TypedTree.{typed_selection_tree}
-use Rattle.document_meaning.specs.MeantTree.{meant}
+use Rattle.spec_document.specs.MeantTree.{meant}
 use Rattle.rule_fragments.specs.SpreadNumbers.{references_of}
 use Rattle.rule_fragments.specs.SpreadViews.{fragment_entries, spread_view}
 use Rattle.rule_fragments.proofs.spread_graph.+spreads.Given as goal

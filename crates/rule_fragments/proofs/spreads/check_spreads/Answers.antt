@@ -3,7 +3,7 @@ use Rattle.std.specs.List.{flat_map}
 use Rattle.graphql_names.specs.Placed.{Place}
 use Rattle.fault_data.specs.FaultView.{faults_of}
 use Rattle.rule_definitions.specs.Room.{◌⊕◌}
-use Rattle.rule_document_ground.specs.Reach.{Member, member_of, meant_fragments, reached_members, reached_fragments_of}
+use Rattle.rule_reach.specs.Reach.{Member, member_of, meant_fragments, reached_members, reached_fragments_of}
 use Rattle.rule_fragments.specs.Listed.{undefined_fragment}
 use Rattle.rule_fragments.proofs.Telling.{told_more, told_all}
 use Rattle.rule_fragments.proofs.Undefined.{lists_undefined}

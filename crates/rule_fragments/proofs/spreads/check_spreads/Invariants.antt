@@ -2,7 +2,7 @@ use Rattle.std.proofs.Common.{◌≡◌, map, take}
 use Rattle.std.specs.List.{flat_map}
 use Rattle.fault_data.specs.FaultView.{faults_of}
 use Rattle.rule_definitions.specs.Room.{◌⊕◌}
-use Rattle.rule_document_ground.specs.Reach.{member_of, meant_fragments}
+use Rattle.rule_reach.specs.Reach.{member_of, meant_fragments}
 use Rattle.rule_fragments.specs.Listed.{undefined_fragment}
 use Rattle.rule_fragments.proofs.spreads.check_spreads.Given as goal
 

@@ -8,8 +8,8 @@ use Rattle.fault_data.specs.FaultView.{faults_of}
 use Rattle.rule_definitions.specs.Room.{◌⊕◌}
 use Rattle.rule_definitions.specs.Diagnostics.{UndefinedFragment}
 use Rattle.rule_definitions.specs.Faults.{wrong}
-use Rattle.rule_definitions.specs.Told.{PlacedFault}
-use Rattle.rule_document_ground.specs.Reach.{meant_fragments}
+use Rattle.rule_definitions.specs.PlacedFaults.{PlacedFault}
+use Rattle.rule_reach.specs.Reach.{meant_fragments}
 use Rattle.rule_fragments.proofs.Members.{known_under}
 use Rattle.rule_fragments.proofs.Undefined.{untold, known_untold, unknown_told}
 use Rattle.rule_fragments.proofs.spreads.undefined_fragment.Goals as goal

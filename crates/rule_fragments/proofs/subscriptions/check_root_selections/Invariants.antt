@@ -1,10 +1,10 @@
 use Rattle.std.proofs.Common.{◌≡◌, take}
 use Rattle.std.specs.List.{flat_map}
 use Rattle.rule_definitions.specs.Room.{◌⊕◌}
-use Rattle.rule_always.specs.in_ground.in_typed_operations.DocumentView.{operation_meant}
+use Rattle.rule_selection_queries.specs.in_reach.in_typed_operations.DocumentView.{operation_meant}
 use Rattle.rule_fragments.specs.Broken.{brokens_of}
 use Rattle.rule_fragments.specs.ListedBreaches.{at_root}
-use Rattle.rule_always.specs.Lent.{lent_all}
+use Rattle.rule_selection_queries.specs.Lent.{lent_all}
 use Rattle.rule_fragments.proofs.subscriptions.check_root_selections.Given as goal
 
 abbrev pub invariant-loop-selection : goal.invariant-loop-selection

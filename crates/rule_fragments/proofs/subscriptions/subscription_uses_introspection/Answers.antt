@@ -3,8 +3,8 @@ use Rattle.std.proofs.lemmas.Result.{IfOk-equal}
 use Rattle.graphql_names.specs.NameValue.{NameValue}
 use Rattle.document_typed_selections.specs.TypedTree.{typed_selection_tree}
 use Rattle.rule_definitions.specs.Room.{◌⊕◌}
-use Rattle.rule_always.specs.in_ground.in_typed_operations.DocumentView.{operation_meant}
-use Rattle.fault_document_data.specs.DocumentBreaches.{SubscriptionUsesIntrospection}
+use Rattle.rule_selection_queries.specs.in_reach.in_typed_operations.DocumentView.{operation_meant}
+use Rattle.fault_document_errors.specs.DocumentBreaches.{SubscriptionUsesIntrospection}
 use Rattle.rule_document_definitions.specs.DocumentFaults.{broken}
 use Rattle.rule_document_definitions.specs.Selected.{operation_name}
 use Rattle.rule_fragments.specs.Broken.{brokens_of}

@@ -1,8 +1,8 @@
 use Rattle.std.proofs.Common.{◌≡◌, [], ◌∷◌, option_map, refl, sym, ◌∙◌, true≢false, rules}
 use Rattle.std.proofs.lemmas.Result.{on_ok_weaker}
 use Rattle.graphql_names.specs.NameValue.{NameValue}
-use Rattle.fault_document_data.specs.DocumentBreaches.{SubscriptionUsesMultipleFields}
-use Rattle.rule_always.specs.in_ground.in_typed_operations.DocumentView.{document_meant, operation_meant}
+use Rattle.fault_document_errors.specs.DocumentBreaches.{SubscriptionUsesMultipleFields}
+use Rattle.rule_selection_queries.specs.in_reach.in_typed_operations.DocumentView.{document_meant, operation_meant}
 use Rattle.rule_document_definitions.specs.DocumentFaults.{broken}
 use Rattle.rule_document_definitions.specs.Selected.{operation_name}
 use Rattle.rule_fragments.proofs.Subscribed.{none_multiple, one_multiple}

@@ -1,7 +1,7 @@
 use Rattle.std.proofs.Common.{◌<◌, ◌≤◌, length, arith}
 use Rattle.rule_cycles.specs.in_schema.SchemaOf.{schema_tree}
 use Rattle.fault_data.specs.FaultView.{faults_of}
-use Rattle.rule_document_ground.specs.Reach.{fragment_of}
+use Rattle.rule_reach.specs.Reach.{fragment_of}
 use Rattle.rule_fragments.specs.Listed.{fragment_target}
 use Rattle.rule_fragments.proofs.Telling.{told_more, told_all}
 use Rattle.rule_fragments.proofs.targets.check_fragment_targets.Goals as goal

@@ -3,7 +3,7 @@ use Rattle.std.specs.List.{flat_map}
 use Rattle.rule_cycles.specs.in_schema.SchemaOf.{schema_tree}
 use Rattle.fault_data.specs.FaultView.{faults_of}
 use Rattle.rule_definitions.specs.Room.{◌⊕◌}
-use Rattle.rule_document_ground.specs.Reach.{fragment_of}
+use Rattle.rule_reach.specs.Reach.{fragment_of}
 use Rattle.rule_fragments.specs.Listed.{fragment_target}
 use Rattle.rule_fragments.proofs.targets.check_fragment_targets.Given as goal
 

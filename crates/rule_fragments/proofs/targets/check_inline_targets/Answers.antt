@@ -4,7 +4,7 @@ use Rattle.graphql_names.specs.Placed.{Place}
 use Rattle.rule_cycles.specs.in_schema.SchemaOf.{schema_tree}
 use Rattle.fault_data.specs.FaultView.{faults_of}
 use Rattle.rule_definitions.specs.Room.{◌⊕◌}
-use Rattle.rule_document_ground.specs.Reach.{Member, member_of}
+use Rattle.rule_reach.specs.Reach.{Member, member_of}
 use Rattle.rule_fragments.specs.Listed.{inline_target}
 use Rattle.rule_fragments.proofs.Telling.{told_more, told_all}
 use Rattle.rule_fragments.proofs.targets.check_inline_targets.Goals as goal

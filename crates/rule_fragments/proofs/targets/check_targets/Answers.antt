@@ -1,7 +1,7 @@
 use Rattle.std.proofs.lemmas.Result.{on_ok_weaker}
 use Rattle.rule_cycles.specs.in_schema.SchemaOf.{schema_tree}
 use Rattle.fault_data.specs.FaultView.{faults_of}
-use Rattle.rule_document_ground.specs.Reach.{reached_members, reached_fragments_of}
+use Rattle.rule_reach.specs.Reach.{reached_members, reached_fragments_of}
 use Rattle.rule_fragments.proofs.Targeted.{gains_targets}
 use Rattle.rule_fragments.proofs.targets.check_targets.Goals as goal
 

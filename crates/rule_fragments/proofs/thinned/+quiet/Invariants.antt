@@ -1,6 +1,6 @@
 use Rattle.std.proofs.Common.{◌≡◌, false, not, take}
 use Rattle.std.specs.List.{list_any}
-use Rattle.rule_always.specs.Lent.{lent}
+use Rattle.rule_selection_queries.specs.Lent.{lent}
 use Rattle.rule_fragments.specs.Thinned.{is_quiet}
 use Rattle.rule_fragments.proofs.thinned.+quiet.Given as goal
 

@@ -3,10 +3,10 @@ use Rattle.std.specs.List.{list_any}
 use Rattle.graphql_names.specs.Placed.{node_tree}
 use Rattle.tree_directives.specs.DirectiveTree.{directive_tree}
 use Rattle.document_typed_selections.specs.TypedTree.{typed_selection_tree}
-use Rattle.rule_always.specs.Lent.{lent}
-use Rattle.rule_always.specs.Stays.{is_directive}
-use Rattle.rule_always.proofs.Staying.{or_left}
-use Rattle.rule_always.proofs.Telling.{directives_meant}
+use Rattle.rule_selection_queries.specs.Lent.{lent}
+use Rattle.rule_selection_queries.specs.Stays.{is_directive}
+use Rattle.rule_selection_queries.proofs.Staying.{or_left}
+use Rattle.rule_selection_queries.proofs.Telling.{directives_meant}
 use Rattle.rule_document_definitions.specs.Selected.{selection_directives}
 use Rattle.rule_fragments.specs.Thinned.{has_noted}
 use Rattle.rule_fragments.proofs.thinned.has_noted.Goals as goal

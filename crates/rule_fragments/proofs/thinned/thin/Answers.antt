@@ -4,8 +4,8 @@ use Rattle.indexmap.specs.IndexMap.{insert_entry}
 use Rattle.schema_components.specs.Names.{same_text}
 use Rattle.schema_types.specs.TypeView.{name_text}
 use Rattle.schema_types.specs.Addresses.{under}
-use Rattle.rule_document_ground.specs.Reach.{meant_fragments}
-use Rattle.rule_document_ground.proofs.Found.{meant_node, found_under}
+use Rattle.rule_reach.specs.Reach.{meant_fragments}
+use Rattle.rule_reach.proofs.Found.{meant_node, found_under}
 use Rattle.rule_fragments.specs.SpreadViews.{fragment_meant}
 use Rattle.rule_fragments.proofs.Instead.{meant_entries, Replaced, replaced, stand_in_more}
 use Rattle.rule_fragments.proofs.thinned.thin.Goals as goal

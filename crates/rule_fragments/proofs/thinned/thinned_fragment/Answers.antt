@@ -1,6 +1,6 @@
 use Rattle.std.proofs.Common.{ap, subst, sym}
 use Rattle.graphql_names.specs.Node.{content}
-use Rattle.document_meaning.specs.MeantTree.{meant_of_set}
+use Rattle.spec_document.specs.MeantTree.{meant_of_set}
 use Rattle.document_typed_selections.specs.TypedTree.{typed_set_tree}
 use Rattle.document_typed_selections.specs.declared.selection.SelectionSet.{SelectionSet}
 use Rattle.document_typed_operations.specs.declared.operation.Fragment.{Fragment}

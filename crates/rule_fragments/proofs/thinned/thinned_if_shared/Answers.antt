@@ -1,6 +1,6 @@
 use Rattle.std.proofs.Common.{sym, subst}
-use Rattle.rule_always.specs.in_ground.in_typed_operations.DocumentView.{document_meant}
-use Rattle.rule_document_ground.specs.Reach.{meant_fragments}
+use Rattle.rule_selection_queries.specs.in_reach.in_typed_operations.DocumentView.{document_meant}
+use Rattle.rule_reach.specs.Reach.{meant_fragments}
 use Rattle.rule_fragments.specs.Thinned.{StandIn}
 use Rattle.rule_fragments.proofs.Instead.{stand_in_same, copied}
 use Rattle.rule_fragments.proofs.thinned.thinned_if_shared.Goals as goal

@@ -1,4 +1,4 @@
-use Rattle.rule_document_ground.specs.Reach.{meant_fragments}
+use Rattle.rule_reach.specs.Reach.{meant_fragments}
 use Rattle.rule_fragments.specs.Thinned.{StandIn}
 use Rattle.rule_fragments.proofs.thinned.thinned_if_shared.Given as goal
 

@@ -2,7 +2,7 @@ use Rattle.std.proofs.Common.{◌≡◌, map}
 use Rattle.fault_data.specs.FaultView.{faults_of}
 use Rattle.rule_definitions.specs.Room.{◌⊕◌}
 use Rattle.rule_cycles.specs.Numbers.{each_value}
-use Rattle.rule_document_ground.specs.NotedNames.{noted_names}
+use Rattle.rule_reach.specs.NotedNames.{noted_names}
 use Rattle.rule_fragments.specs.Unused.{unused_fragment}
 use Rattle.rule_fragments.specs.SpreadViews.{fragment_meant}
 use Rattle.rule_fragments.proofs.unused.tell_unused.Given as goal

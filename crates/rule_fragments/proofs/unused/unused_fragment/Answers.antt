@@ -7,8 +7,8 @@ use Rattle.fault_data.specs.FaultView.{faults_of}
 use Rattle.rule_definitions.specs.Room.{◌⊕◌}
 use Rattle.rule_definitions.specs.Diagnostics.{UnusedFragment}
 use Rattle.rule_definitions.specs.Faults.{wrong}
-use Rattle.rule_definitions.specs.Told.{PlacedFault}
-use Rattle.rule_document_ground.specs.NotedNames.{noted_names}
+use Rattle.rule_definitions.specs.PlacedFaults.{PlacedFault}
+use Rattle.rule_reach.specs.NotedNames.{noted_names}
 use Rattle.rule_fragments.specs.SpreadViews.{fragment_meant}
 use Rattle.rule_fragments.proofs.UnusedTold.{nothing_told, fault_told}
 use Rattle.rule_fragments.proofs.unused.unused_fragment.Goals as goal

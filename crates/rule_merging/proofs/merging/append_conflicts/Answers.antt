@@ -1,10 +1,10 @@
 use Rattle.std.proofs.Common.{map}
 use Rattle.std.proofs.lemmas.Result.{on_ok_weaker}
-use Rattle.rule_field_groups.specs.in_sets.in_ground.in_typed_operations.DocumentView.{operation_meant}
+use Rattle.rule_field_groups.specs.in_sets.in_reach.in_typed_operations.DocumentView.{operation_meant}
 use Rattle.rule_field_groups.specs.in_document_definitions.DocumentFaults.{OfDocument}
 use Rattle.graphql_faults.specs.DetailsTree.{of_document}
 use Rattle.graphql_faults.specs.DetailsView.{diagnostics_of}
-use Rattle.rule_field_groups.specs.in_sets.in_ground.Broken.{brokens_of}
+use Rattle.rule_field_groups.specs.in_sets.in_reach.Broken.{brokens_of}
 use Rattle.rule_merging.proofs.Verdicts.{conflicts_in_turn}
 use Rattle.rule_merging.proofs.Behind.{begins_kept}
 use Rattle.rule_merging.proofs.merging.append_conflicts.Goals as goal

@@ -1,7 +1,7 @@
 use Rattle.rule_field_groups.specs.in_sets.in_schema.SchemaOf.{schema_tree}
-use Rattle.rule_field_groups.specs.in_sets.in_ground.in_typed_operations.DocumentView.{document_meant, operation_meant}
+use Rattle.rule_field_groups.specs.in_sets.in_reach.in_typed_operations.DocumentView.{document_meant, operation_meant}
 use Rattle.rule_field_groups.specs.in_definitions.Judged.{judged}
-use Rattle.rule_field_groups.specs.in_sets.in_ground.Broken.{brokens_of}
+use Rattle.rule_field_groups.specs.in_sets.in_reach.Broken.{brokens_of}
 use Rattle.rule_field_groups.specs.in_sets.Read.{set_at}
 use Rattle.rule_merging.specs.Verdict.{account_in, ExaminesOperation}
 use Rattle.rule_merging.proofs.Counting.{starting_listed}

@@ -1,7 +1,7 @@
 use Rattle.std.proofs.Common.{false}
 use Rattle.std.proofs.lemmas.Result.{IfOk-weaker}
 use Rattle.rule_field_groups.specs.in_sets.in_schema.SchemaOf.{schema_tree}
-use Rattle.rule_field_groups.specs.in_sets.in_ground.in_typed_operations.DocumentView.{document_meant, operation_meant}
+use Rattle.rule_field_groups.specs.in_sets.in_reach.in_typed_operations.DocumentView.{document_meant, operation_meant}
 use Rattle.rule_field_groups.specs.in_definitions.Judged.{judged}
 use Rattle.rule_merging.specs.Verdict.{ExaminesOperation, account_in}
 use Rattle.rule_merging.proofs.Operating.{nothing_grows, either_left}

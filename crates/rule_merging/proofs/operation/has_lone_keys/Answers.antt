@@ -2,10 +2,10 @@ use Rattle.std.proofs.Common.{refl, sym, subst}
 use Rattle.std.specs.Prelude.{IsTrue}
 use Rattle.std.specs.Result.{IfOk}
 use Rattle.rule_field_groups.specs.in_typed_selections.TypedTree.{typed_set_tree}
-use Rattle.rule_field_groups.specs.in_meaning.MeantTree.{meant_of_set}
-use Rattle.rule_field_groups.specs.in_sets.in_ground.in_typed_operations.DocumentView.{document_meant}
+use Rattle.rule_field_groups.specs.in_spec_document.MeantTree.{meant_of_set}
+use Rattle.rule_field_groups.specs.in_sets.in_reach.in_typed_operations.DocumentView.{document_meant}
 use Rattle.rule_field_groups.specs.in_document_definitions.ReadFields.{fragments_read, set_read}
-use Rattle.rule_document_ground.specs.LoneKeys.{AreKeysLone}
+use Rattle.rule_reach.specs.LoneKeys.{AreKeysLone}
 use Rattle.rule_merging.proofs.Operating.{starts}
 use Rattle.rule_merging.proofs.operation.has_lone_keys.Goals as goal
 

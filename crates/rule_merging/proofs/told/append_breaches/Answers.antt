@@ -1,10 +1,10 @@
 use Rattle.std.proofs.Common.{◌≡◌, ◌∷◌, [], ◌++◌, length, sym, ap, ◌∙◌, append_assoc, arith}
 use Rattle.std.specs.Vec.Iter.{into_iter_items}
 use Rattle.graphql_names.specs.Placed.{Place}
-use Rattle.graphql_faults.specs.in_document_data.declared.build_error.BuildError.{BuildError}
+use Rattle.graphql_faults.specs.in_document_errors.declared.build_error.BuildError.{BuildError}
 use Rattle.rule_field_groups.specs.in_document_definitions.DocumentFaults.{OfDocument}
 use Rattle.graphql_faults.proofs.Growing.{grown_more, grown_all, grown_kept}
-use Rattle.rule_field_groups.specs.in_sets.in_ground.Broken.{broken_of}
+use Rattle.rule_field_groups.specs.in_sets.in_reach.Broken.{broken_of}
 use Rattle.graphql_faults.specs.DetailsTree.{of_document}
 use Rattle.rule_merging.proofs.told.append_breaches.Goals as goal
 

@@ -3,7 +3,7 @@ use Rattle.std.specs.Vec.Iter.{into_iter_items, into_iter_len}
 use Rattle.rule_field_groups.specs.in_document_definitions.DocumentFaults.{OfDocument}
 use Rattle.graphql_faults.specs.DetailsTree.{of_document}
 use Rattle.graphql_faults.specs.DetailsView.{diagnostics_of}
-use Rattle.rule_field_groups.specs.in_sets.in_ground.Broken.{broken_of}
+use Rattle.rule_field_groups.specs.in_sets.in_reach.Broken.{broken_of}
 use Rattle.rule_merging.proofs.told.append_breaches.Given as goal
 
 abbrev pub invariant-loop-place : goal.invariant-loop-place

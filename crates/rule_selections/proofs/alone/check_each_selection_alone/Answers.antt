@@ -4,10 +4,10 @@ use Rattle.graphql_names.specs.Placed.{Place}
 use Rattle.fault_data.specs.FaultView.{faults_of}
 use Rattle.fault_data.specs.Adds.{Adds}
 use Rattle.rule_definitions.specs.Words.{AtSomeIndex}
-use Rattle.rule_document_ground.specs.Reach.{Member, member_of}
+use Rattle.rule_reach.specs.Reach.{Member, member_of}
 use Rattle.rule_definitions.proofs.Listing.{mapped_more}
 use Rattle.rule_definitions.proofs.Adding.{gains_none, gains_more}
-use Rattle.rule_selections.specs.Steps.{SelectionAloneBreaks}
+use Rattle.rule_selections.specs.SelectionFaults.{SelectionAloneBreaks}
 use Rattle.rule_selections.proofs.alone.check_each_selection_alone.Goals as goal
 
 pub loop-selection-init : goal.loop-selection-init

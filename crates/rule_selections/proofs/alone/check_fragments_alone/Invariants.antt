@@ -1,8 +1,8 @@
 use Rattle.std.proofs.Common.{map, take}
 use Rattle.fault_data.specs.Adds.{Adds}
 use Rattle.rule_definitions.specs.Words.{AtSomeIndex}
-use Rattle.rule_uses.specs.Alone.{DirectivesAloneBreak}
-use Rattle.rule_document_ground.specs.Reach.{fragment_of}
+use Rattle.rule_arguments.specs.Alone.{DirectivesAloneBreak}
+use Rattle.rule_reach.specs.Reach.{fragment_of}
 use Rattle.rule_selections.proofs.alone.check_fragments_alone.Given as goal
 
 abbrev pub invariant-loop-index : goal.invariant-loop-index

@@ -6,8 +6,8 @@ use Rattle.document_typed_selections.specs.TypedTree.{typed_selection_tree}
 use Rattle.document_typed_selections.specs.declared.selection.Field.{Field}
 use Rattle.fault_data.specs.FaultView.{faults_of}
 use Rattle.fault_data.specs.Adds.{Adds}
-use Rattle.rule_uses.specs.Alone.{ArgumentsBreak, DirectivesAloneBreak}
-use Rattle.rule_uses.specs.Trees.{arguments_of, directives_of}
+use Rattle.rule_arguments.specs.Alone.{ArgumentsBreak, DirectivesAloneBreak}
+use Rattle.rule_arguments.specs.Trees.{arguments_of, directives_of}
 use Rattle.rule_definitions.proofs.Adding.{gains_both, gains_same, gains_nothing}
 use Rattle.rule_selections.proofs.Members.{directives_meant, no_field, one_field}
 use Rattle.rule_selections.proofs.alone.check_selection_alone.Goals as goal

@@ -4,16 +4,16 @@ use Rattle.graphql_names.specs.Placed.{Place, node_tree}
 use Rattle.tree_directives.specs.DirectiveTree.{Directives, directives_tree}
 use Rattle.document_typed_operations.specs.TypedDocument.{typed_operation_tree}
 use Rattle.document_typed_operations.specs.declared.operation.Operation.{Operation}
-use Rattle.rule_document_ground.specs.in_typed_operations.DocumentView.{meant_by_operation}
+use Rattle.rule_reach.specs.in_typed_operations.DocumentView.{meant_by_operation}
 use Rattle.fault_data.specs.FaultView.{faults_of}
 use Rattle.fault_data.specs.Adds.{Adds}
 use Rattle.rule_definitions.specs.Words.{AtSomeIndex}
 use Rattle.rule_definitions.specs.GivenValues.{Variables}
-use Rattle.rule_uses.specs.in_rule_values.Wanting.{variables_of}
-use Rattle.rule_uses.specs.Alone.{DirectivesAloneBreak}
-use Rattle.rule_uses.specs.Trees.{directives_of}
+use Rattle.rule_arguments.specs.in_rule_values.Wanting.{variables_of}
+use Rattle.rule_arguments.specs.Alone.{DirectivesAloneBreak}
+use Rattle.rule_arguments.specs.Trees.{directives_of}
 use Rattle.rule_definitions.proofs.Adding.{gains_both, gains_same}
-use Rattle.rule_document_ground.specs.Reach.{reached_members, reached_fragments_of}
+use Rattle.rule_reach.specs.Reach.{reached_members, reached_fragments_of}
 use Rattle.rule_selections.proofs.Selecting.{given_in_breaks}
 use Rattle.rule_selections.proofs.alone.check_selections_alone.Goals as goal
 

@@ -7,9 +7,9 @@ use Rattle.tree_operations.specs.declared.operation.VariableDefinition.{Variable
 use Rattle.fault_data.specs.FaultView.{faults_of}
 use Rattle.fault_data.specs.Adds.{Adds}
 use Rattle.rule_definitions.specs.Words.{AtSomeIndex}
-use Rattle.rule_uses.specs.in_rule_values.Wanting.{variables_of}
-use Rattle.rule_uses.specs.Alone.{DirectivesAloneBreak}
-use Rattle.rule_uses.specs.Trees.{directives_of}
+use Rattle.rule_arguments.specs.in_rule_values.Wanting.{variables_of}
+use Rattle.rule_arguments.specs.Alone.{DirectivesAloneBreak}
+use Rattle.rule_arguments.specs.Trees.{directives_of}
 use Rattle.rule_definitions.proofs.Listing.{mapped_more}
 use Rattle.rule_definitions.proofs.Adding.{gains_none, gains_more}
 use Rattle.rule_selections.proofs.alone.check_variables_alone.Goals as goal

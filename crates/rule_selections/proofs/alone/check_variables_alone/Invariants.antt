@@ -1,8 +1,8 @@
 use Rattle.std.proofs.Common.{take}
 use Rattle.fault_data.specs.Adds.{Adds}
 use Rattle.rule_definitions.specs.Words.{AtSomeIndex}
-use Rattle.rule_uses.specs.in_rule_values.Wanting.{variables_of}
-use Rattle.rule_uses.specs.Alone.{DirectivesAloneBreak}
+use Rattle.rule_arguments.specs.in_rule_values.Wanting.{variables_of}
+use Rattle.rule_arguments.specs.Alone.{DirectivesAloneBreak}
 use Rattle.rule_selections.proofs.alone.check_variables_alone.Given as goal
 
 abbrev pub invariant-loop-variable : goal.invariant-loop-variable

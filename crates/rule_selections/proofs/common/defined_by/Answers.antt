@@ -2,8 +2,8 @@ use Rattle.std.proofs.Common.{◌<◌, ◌∙◌, length, ap, subst, arith}
 use Rattle.graphql_names.specs.Placed.{Place, node_tree}
 use Rattle.tree_operations.specs.OperationTree.{variable_definition_tree}
 use Rattle.document_typed_operations.specs.declared.operation.Operation.{Operation}
-use Rattle.rule_document_ground.specs.in_typed_operations.DocumentView.{operation_meant}
-use Rattle.rule_uses.specs.in_rule_values.Wanting.{variables_of}
+use Rattle.rule_reach.specs.in_typed_operations.DocumentView.{operation_meant}
+use Rattle.rule_arguments.specs.in_rule_values.Wanting.{variables_of}
 use Rattle.rule_definitions.specs.GivenValues.{Variables}
 use Rattle.rule_selections.specs.Settled.{KeepsIfDefined}
 use Rattle.rule_selections.proofs.DefinedAlike.{none_kept, more_kept}

@@ -1,5 +1,5 @@
-use Rattle.rule_document_ground.specs.in_typed_operations.DocumentView.{operation_meant}
-use Rattle.rule_uses.specs.in_rule_values.Wanting.{variables_of}
+use Rattle.rule_reach.specs.in_typed_operations.DocumentView.{operation_meant}
+use Rattle.rule_arguments.specs.in_rule_values.Wanting.{variables_of}
 use Rattle.rule_selections.specs.Settled.{AreThoseDefined}
 use Rattle.rule_selections.proofs.common.defined_by.Given as goal
 

@@ -3,7 +3,7 @@ use Rattle.std.specs.Option.{option_map}
 use Rattle.graphql_names.specs.Placed.{node_tree}
 use Rattle.tree_operations.specs.OperationTree.{variable_definition_tree}
 use Rattle.tree_operations.specs.declared.operation.VariableDefinition.{VariableDefinition}
-use Rattle.rule_uses.specs.in_rule_values.Wanting.{variables_of}
+use Rattle.rule_arguments.specs.in_rule_values.Wanting.{variables_of}
 use Rattle.rule_definitions.specs.Names.{defined_name}
 use Rattle.rule_selections.specs.Settled.{AreAlike}
 use Rattle.rule_selections.proofs.common.is_defined_in.Goals as goal

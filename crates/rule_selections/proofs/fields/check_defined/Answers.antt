@@ -12,9 +12,9 @@ use Rattle.rule_selections.proofs.AbsentFields.{field_absent}
 use Rattle.fault_data.specs.Adds.{Adds}
 use Rattle.rule_definitions.specs.Judged.{judged}
 use Rattle.rule_definitions.specs.Uses.{Taker, TakerBreaks}
-use Rattle.rule_uses.specs.in_rule_values.Wanting.{variables_of}
-use Rattle.rule_document_definitions.specs.Told.{place_or_built_in}
-use Rattle.rule_uses.specs.Trees.{arguments_of}
+use Rattle.rule_arguments.specs.in_rule_values.Wanting.{variables_of}
+use Rattle.rule_document_definitions.specs.PlacedDocumentFaults.{place_or_built_in}
+use Rattle.rule_arguments.specs.Trees.{arguments_of}
 use Rattle.tree_directives.specs.DirectiveTree.{argument_tree}
 use Rattle.tree_directives.specs.declared.input_value.InputValueDefinition.{InputValueDefinition}
 use Rattle.tree_type_members.specs.TypeSystemTree.{field_definition_tree, unplaced_field_definition}
@@ -24,9 +24,9 @@ use Rattle.graphql_names.specs.Placed.{node_tree}
 use Rattle.graphql_names.specs.declared.node.Node.{Node}
 use Rattle.fault_data.specs.FaultView.{faults_of}
 use Rattle.rule_document_definitions.specs.Selections.{field_taker}
-use Rattle.rule_document_definitions.specs.Told.{places_in}
-use Rattle.rule_uses.specs.Trees.{plain_inputs}
-use Rattle.rule_selections.specs.Steps.{standing_field}
+use Rattle.rule_document_definitions.specs.PlacedDocumentFaults.{places_in}
+use Rattle.rule_arguments.specs.Trees.{plain_inputs}
+use Rattle.rule_selections.specs.SelectionFaults.{standing_field}
 use Rattle.rule_definitions.proofs.Adding.{gains_nothing}
 use Rattle.rule_selections.proofs.NoArguments.{none_break}
 use Rattle.rule_selections.proofs.Takers.{same_taker, tells_places}

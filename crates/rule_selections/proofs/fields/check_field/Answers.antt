@@ -9,11 +9,11 @@ use Rattle.fault_data.specs.Adds.{Adds}
 use Rattle.rule_definitions.specs.Room.{◌⊕◌}
 use Rattle.rule_definitions.specs.Judged.{judged}
 use Rattle.rule_definitions.specs.Uses.{GivenBreaks}
-use Rattle.rule_uses.specs.in_rule_values.Wanting.{variables_of}
-use Rattle.rule_document_definitions.specs.Told.{place_or_built_in}
-use Rattle.rule_uses.specs.Trees.{arguments_of}
+use Rattle.rule_arguments.specs.in_rule_values.Wanting.{variables_of}
+use Rattle.rule_document_definitions.specs.PlacedDocumentFaults.{place_or_built_in}
+use Rattle.rule_arguments.specs.Trees.{arguments_of}
 use Rattle.rule_definitions.proofs.Adding.{gains_both, gains_list}
-use Rattle.rule_selections.specs.Steps.{standing_field, missing_subselection}
+use Rattle.rule_selections.specs.SelectionFaults.{standing_field, missing_subselection}
 use Rattle.rule_selections.proofs.FieldKinds.{lists_missing}
 use Rattle.rule_selections.proofs.fields.check_field.Goals as goal
 

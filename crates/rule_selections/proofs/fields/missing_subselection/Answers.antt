@@ -8,7 +8,7 @@ use Rattle.document_typed_selections.specs.TypedTree.{typed_set_tree, holds_none
 use Rattle.document_typed_selections.specs.declared.selection.Field.{Field}
 use Rattle.fault_data.specs.FaultView.{faults_of}
 use Rattle.rule_definitions.specs.Room.{◌⊕◌}
-use Rattle.rule_selections.specs.Steps.{standing_field}
+use Rattle.rule_selections.specs.SelectionFaults.{standing_field}
 use Rattle.rule_selections.proofs.FieldKinds.{none_meant, output_name, missing_none, missing_told, missing_fine}
 use Rattle.rule_selections.proofs.fields.missing_subselection.Goals as goal
 

@@ -1,6 +1,6 @@
-use Rattle.std.proofs.Common.{[], List, Contains, ℕ, Option, Some, ap, sym, subst, ◌∙◌}
+use Rattle.std.proofs.Common.{[], List, Contains, ℕ, ap, sym, subst, ◌∙◌}
 use Rattle.std.specs.Option.{option_map_or}
-use Rattle.rule_document_ground.specs.NotedNames.{noted_names}
+use Rattle.rule_reach.specs.NotedNames.{noted_names}
 use Rattle.rule_definitions.proofs.Lookups.{text_given}
 use Rattle.rule_selections.proofs.quiet.applies.Goals as goal
 

@@ -5,11 +5,11 @@ use Rattle.graphql_schema.specs.SchemaOf.{schema_tree}
 use Rattle.fault_data.specs.FaultView.{faults_of}
 use Rattle.fault_data.specs.Adds.{Adds}
 use Rattle.rule_definitions.specs.Words.{AtSomeIndex}
-use Rattle.rule_uses.specs.in_rule_values.Wanting.{variables_of}
-use Rattle.rule_document_ground.specs.Reach.{Member, member_of}
+use Rattle.rule_arguments.specs.in_rule_values.Wanting.{variables_of}
+use Rattle.rule_reach.specs.Reach.{Member, member_of}
 use Rattle.rule_definitions.proofs.Listing.{mapped_more}
 use Rattle.rule_definitions.proofs.Adding.{gains_none, gains_more}
-use Rattle.rule_selections.specs.Steps.{SelectionBreaks}
+use Rattle.rule_selections.specs.SelectionFaults.{SelectionBreaks}
 use Rattle.rule_selections.proofs.Members.{comes_to}
 use Rattle.rule_selections.proofs.selections.check_each_selection.Goals as goal
 

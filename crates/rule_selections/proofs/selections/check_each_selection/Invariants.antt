@@ -4,11 +4,11 @@ use Rattle.schema_types.specs.Plain.{plain}
 use Rattle.graphql_schema.specs.SchemaOf.{schema_tree}
 use Rattle.fault_data.specs.Adds.{Adds}
 use Rattle.rule_definitions.specs.Words.{AtSomeIndex}
-use Rattle.rule_uses.specs.in_rule_values.Wanting.{variables_of}
+use Rattle.rule_arguments.specs.in_rule_values.Wanting.{variables_of}
 use Rattle.document_typing.specs.Meanings.{meanings}
 use Rattle.document_typing.specs.TypedByPlace.{IsTyped}
-use Rattle.rule_document_ground.specs.Reach.{Member, member_of, reached_members}
-use Rattle.rule_selections.specs.Steps.{SelectionBreaks}
+use Rattle.rule_reach.specs.Reach.{Member, member_of, reached_members}
+use Rattle.rule_selections.specs.SelectionFaults.{SelectionBreaks}
 use Rattle.rule_selections.proofs.selections.check_each_selection.Given as goal
 
 abbrev pub invariant-loop-parent : goal.invariant-loop-parent

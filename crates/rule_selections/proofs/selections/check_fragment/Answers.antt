@@ -9,8 +9,8 @@ use Rattle.document_typed_operations.specs.declared.operation.Fragment.{Fragment
 use Rattle.fault_data.specs.Adds.{Adds}
 use Rattle.rule_definitions.specs.Judged.{judged}
 use Rattle.rule_definitions.specs.Uses.{UsesBreak}
-use Rattle.rule_uses.specs.in_rule_values.Wanting.{variables_of}
-use Rattle.rule_uses.specs.Trees.{directives_of}
+use Rattle.rule_arguments.specs.in_rule_values.Wanting.{variables_of}
+use Rattle.rule_arguments.specs.Trees.{directives_of}
 use Rattle.rule_selections.proofs.selections.check_fragment.Goals as goal
 
 pub returns : goal.returns

@@ -6,14 +6,14 @@ use Rattle.schema_types.specs.Addresses.{place_at}
 use Rattle.graphql_schema.specs.SchemaOf.{schema_tree}
 use Rattle.fault_data.specs.FaultView.{faults_of}
 use Rattle.fault_data.specs.Adds.{Adds}
-use Rattle.document_meaning.specs.MeantTree.{MeantFragment}
+use Rattle.spec_document.specs.MeantTree.{MeantFragment}
 use Rattle.rule_definitions.specs.Words.{AtSomeIndex}
 use Rattle.rule_definitions.specs.Judged.{judged}
 use Rattle.rule_definitions.specs.Uses.{UsesBreak}
-use Rattle.rule_uses.specs.in_rule_values.Wanting.{variables_of}
+use Rattle.rule_arguments.specs.in_rule_values.Wanting.{variables_of}
 use Rattle.rule_definitions.proofs.Listing.{mapped_more}
 use Rattle.rule_definitions.proofs.Adding.{gains_none, gains_more}
-use Rattle.rule_document_ground.specs.Reach.{fragment_of}
+use Rattle.rule_reach.specs.Reach.{fragment_of}
 use Rattle.rule_selections.proofs.selections.check_fragments.Goals as goal
 
 pub loop-index-init : goal.loop-index-init

@@ -6,8 +6,8 @@ use Rattle.fault_data.specs.Adds.{Adds}
 use Rattle.rule_definitions.specs.Words.{AtSomeIndex}
 use Rattle.rule_definitions.specs.Judged.{judged}
 use Rattle.rule_definitions.specs.Uses.{UsesBreak}
-use Rattle.rule_uses.specs.in_rule_values.Wanting.{variables_of}
-use Rattle.rule_document_ground.specs.Reach.{fragment_of}
+use Rattle.rule_arguments.specs.in_rule_values.Wanting.{variables_of}
+use Rattle.rule_reach.specs.Reach.{fragment_of}
 use Rattle.rule_selections.proofs.selections.check_fragments.Given as goal
 
 abbrev pub invariant-loop-index : goal.invariant-loop-index

@@ -7,10 +7,10 @@ use Rattle.fault_data.specs.FaultView.{faults_of}
 use Rattle.fault_data.specs.Adds.{Adds}
 use Rattle.rule_definitions.specs.Judged.{judged}
 use Rattle.rule_definitions.specs.Uses.{UsesBreak}
-use Rattle.rule_uses.specs.in_rule_values.Wanting.{variables_of}
-use Rattle.rule_uses.specs.Trees.{directives_of}
+use Rattle.rule_arguments.specs.in_rule_values.Wanting.{variables_of}
+use Rattle.rule_arguments.specs.Trees.{directives_of}
 use Rattle.rule_definitions.proofs.Adding.{gains_both, gains_same, gains_nothing}
-use Rattle.rule_selections.specs.Steps.{FieldBreaks}
+use Rattle.rule_selections.specs.SelectionFaults.{FieldBreaks}
 use Rattle.rule_selections.proofs.Members.{directives_meant, no_field, one_field, typed_there}
 use Rattle.rule_selections.proofs.selections.check_selection.Goals as goal
 

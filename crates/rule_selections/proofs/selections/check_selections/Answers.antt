@@ -9,19 +9,19 @@ use Rattle.schema_types.specs.Addresses.{place_at}
 use Rattle.graphql_schema.specs.SchemaOf.{schema_tree}
 use Rattle.document_typed_operations.specs.TypedDocument.{typed_operation_tree}
 use Rattle.document_typed_operations.specs.declared.operation.Operation.{Operation}
-use Rattle.rule_document_ground.specs.in_typed_operations.DocumentView.{meant_by_operation}
+use Rattle.rule_reach.specs.in_typed_operations.DocumentView.{meant_by_operation}
 use Rattle.document_typing.specs.Meanings.{meanings}
 use Rattle.fault_data.specs.FaultView.{faults_of}
 use Rattle.fault_data.specs.Adds.{Adds}
 use Rattle.rule_definitions.specs.Words.{AtSomeIndex}
 use Rattle.rule_definitions.specs.Judged.{judged}
 use Rattle.rule_definitions.specs.Uses.{UsesBreak}
-use Rattle.rule_uses.specs.in_rule_values.Wanting.{variables_of}
-use Rattle.rule_uses.specs.Trees.{directives_of}
+use Rattle.rule_arguments.specs.in_rule_values.Wanting.{variables_of}
+use Rattle.rule_arguments.specs.Trees.{directives_of}
 use Rattle.rule_definitions.proofs.Adding.{gains_both, gains_same}
-use Rattle.rule_document_ground.specs.Reach.{reached_members, reached_fragments_of}
+use Rattle.rule_reach.specs.Reach.{reached_members, reached_fragments_of}
 use Rattle.rule_selections.proofs.Typing.{member_typed}
-use Rattle.rule_selections.specs.Steps.{SelectionBreaks}
+use Rattle.rule_selections.specs.SelectionFaults.{SelectionBreaks}
 use Rattle.rule_selections.proofs.Selecting.{selections_break}
 use Rattle.rule_selections.proofs.selections.check_selections.Goals as goal
 

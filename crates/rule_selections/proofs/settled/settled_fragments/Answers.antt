@@ -2,9 +2,9 @@ use Rattle.std.proofs.Common.{[], List, ap, subst, sym, ◌∙◌}
 use Rattle.graphql_names.specs.declared.node.Node.{Node}
 use Rattle.tree_operations.specs.declared.operation.VariableDefinition.{VariableDefinition}
 use Rattle.graphql_schema.specs.SchemaOf.{schema_tree}
-use Rattle.rule_document_ground.specs.in_typed_operations.DocumentView.{document_meant}
-use Rattle.rule_document_ground.specs.Reach.{meant_fragments}
-use Rattle.rule_uses.specs.in_rule_values.Wanting.{variables_of}
+use Rattle.rule_reach.specs.in_typed_operations.DocumentView.{document_meant}
+use Rattle.rule_reach.specs.Reach.{meant_fragments}
+use Rattle.rule_arguments.specs.in_rule_values.Wanting.{variables_of}
 use Rattle.schema_components.proofs.Places.{not_in_nil}
 use Rattle.rule_selections.specs.Settled.{Terms, AreCommon}
 use Rattle.rule_selections.proofs.Standing.{stand_in_same}

@@ -1,5 +1,5 @@
 use Rattle.std.proofs.Common.{sym, subst}
-use Rattle.rule_document_ground.specs.Reach.{meant_fragments}
+use Rattle.rule_reach.specs.Reach.{meant_fragments}
 use Rattle.rule_selections.specs.Settled.{StandIn}
 use Rattle.rule_selections.specs.Telling.{terms_of}
 use Rattle.rule_selections.proofs.Standing.{stand_in_same, copied}

@@ -1,5 +1,5 @@
-use Rattle.rule_document_ground.specs.in_typed_operations.DocumentView.{document_meant}
-use Rattle.rule_document_ground.specs.Reach.{meant_fragments}
+use Rattle.rule_reach.specs.in_typed_operations.DocumentView.{document_meant}
+use Rattle.rule_reach.specs.Reach.{meant_fragments}
 use Rattle.rule_selections.specs.Settled.{StandIn}
 use Rattle.rule_selections.specs.Telling.{terms_of}
 use Rattle.rule_selections.proofs.settled.settled_under.Given as goal

@@ -5,7 +5,7 @@ use Rattle.tree_directives.specs.DirectiveTree.{argument_tree}
 use Rattle.document_typed_selections.specs.TypedTree.{typed_set_tree}
 use Rattle.document_typed_selections.specs.TypedParts.{own_definition, typed_head}
 use Rattle.document_typed_selections.specs.declared.selection.Field.{Field}
-use Rattle.document_meaning.specs.MeantTree.{meant_of_set}
+use Rattle.spec_document.specs.MeantTree.{meant_of_set}
 use Rattle.rule_selections.specs.Settled.{filled}
 use Rattle.rule_selections.proofs.Thinning.{field_with}
 use Rattle.rule_selections.proofs.thinned.field_with.Goals as goal

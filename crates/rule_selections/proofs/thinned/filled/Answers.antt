@@ -4,7 +4,7 @@ use Rattle.graphql_names.specs.Placed.{Place, Text, name_tree}
 use Rattle.document_typed_selections.specs.TypedTree.{typed_set, no_typed, typed_then, typed_set_tree, set_type}
 use Rattle.document_typed_selections.specs.TypedParts.{set_and, bare_inline}
 use Rattle.document_typed_selections.proofs.TypedTrees.{typed_set_tree_out}
-use Rattle.document_meaning.specs.MeantTree.{meant_of_set}
+use Rattle.spec_document.specs.MeantTree.{meant_of_set}
 use Rattle.rule_selections.proofs.Thinning.{filled_by_filler}
 use Rattle.rule_selections.proofs.thinned.filled.Goals as goal
 

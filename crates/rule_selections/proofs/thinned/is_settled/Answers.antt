@@ -1,7 +1,7 @@
 use Rattle.std.proofs.Common.{◌∙◌, Bool, IsTrue, sym}
 use Rattle.std.proofs.lemmas.Result.{IfOk-weaker}
 use Rattle.document_typed_selections.specs.TypedTree.{typed_selection_tree, typed_set_tree}
-use Rattle.document_meaning.specs.MeantTree.{meant, meant_of_set}
+use Rattle.spec_document.specs.MeantTree.{meant, meant_of_set}
 use Rattle.rule_selections.specs.Settled.{IsQuiet}
 use Rattle.rule_selections.specs.Telling.{terms_of, member_there, SettlesIfLeft}
 use Rattle.rule_selections.proofs.Leaving.{settled_if}

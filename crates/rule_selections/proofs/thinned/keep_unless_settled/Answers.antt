@@ -1,6 +1,6 @@
 use Rattle.std.proofs.Common.{refl, inl, inr}
 use Rattle.document_typed_selections.specs.TypedTree.{typed_selection_tree, typed_set_tree}
-use Rattle.document_meaning.specs.MeantTree.{meant, meant_of_set}
+use Rattle.spec_document.specs.MeantTree.{meant, meant_of_set}
 use Rattle.rule_selections.specs.Telling.{terms_of}
 use Rattle.rule_selections.proofs.Leaving.{stays_with}
 use Rattle.rule_selections.proofs.SetsWithin.{stays_whole, stays_by}

@@ -1,7 +1,7 @@
 use Rattle.std.proofs.Common.{◌<◌, ◌∙◌, ℕ, List, map, length, Contains, sym, subst, arith}
 use Rattle.std.proofs.lemmas.List.{take_all}
 use Rattle.graphql_names.specs.NameValue.{NameValue}
-use Rattle.rule_document_ground.specs.NotedNames.{noted_names}
+use Rattle.rule_reach.specs.NotedNames.{noted_names}
 use Rattle.rule_selections.proofs.Names.{next_in}
 use Rattle.rule_selections.proofs.used.are_in.Goals as goal
 

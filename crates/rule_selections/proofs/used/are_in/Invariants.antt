@@ -1,5 +1,5 @@
 use Rattle.std.proofs.Common.{ℕ, List, map, take, Contains}
-use Rattle.rule_document_ground.specs.NotedNames.{noted_names}
+use Rattle.rule_reach.specs.NotedNames.{noted_names}
 use Rattle.rule_selections.proofs.used.are_in.Given as goal
 
 abbrev pub invariant-loop-name : goal.invariant-loop-name

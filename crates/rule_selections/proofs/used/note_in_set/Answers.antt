@@ -2,8 +2,8 @@ use Rattle.std.proofs.Common.{◌<◌, ◌∙◌, length, ap, sym, arith}
 use Rattle.document_typed_selections.specs.TypedTree.{typed_selections, typed_selection_tree}
 use Rattle.document_typed_selections.specs.declared.selection.Selection.{Selection}
 use Rattle.document_typed_selections.proofs.TypedTrees.{typed_set_tree_out}
-use Rattle.document_meaning.specs.MeantTree.{meant}
-use Rattle.rule_document_ground.specs.NotedNames.{noted_names}
+use Rattle.spec_document.specs.MeantTree.{meant}
+use Rattle.rule_reach.specs.NotedNames.{noted_names}
 use Rattle.rule_selections.specs.UsedNames.{with_along, with_set}
 use Rattle.rule_selections.proofs.Names.{next_noted, all_noted}
 use Rattle.rule_selections.proofs.used.note_in_set.Goals as goal

@@ -1,6 +1,6 @@
 use Rattle.std.proofs.Common.{◌≡◌, drop}
 use Rattle.document_typed_selections.specs.TypedTree.{typed_selections, typed_selection_tree}
-use Rattle.rule_document_ground.specs.NotedNames.{noted_names}
+use Rattle.rule_reach.specs.NotedNames.{noted_names}
 use Rattle.rule_selections.specs.UsedNames.{with_along}
 use Rattle.rule_selections.proofs.used.note_in_set.Given as goal
 

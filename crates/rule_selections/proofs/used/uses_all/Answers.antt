@@ -1,5 +1,5 @@
 use Rattle.document_typed_selections.specs.TypedTree.{typed_set_tree}
-use Rattle.rule_document_ground.specs.NotedNames.{noted_names}
+use Rattle.rule_reach.specs.NotedNames.{noted_names}
 use Rattle.rule_selections.proofs.Names.{uses_all}
 use Rattle.rule_selections.proofs.used.uses_all.Goals as goal
 

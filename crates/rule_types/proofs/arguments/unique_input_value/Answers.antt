@@ -9,7 +9,7 @@ use Rattle.fault_data.specs.FaultView.{faults_of}
 use Rattle.fault_data.specs.Room.{◌⊕◌}
 use Rattle.fault_data.specs.in_rule_definitions.Diagnostics.{UniqueInputValue}
 use Rattle.fault_data.specs.in_rule_definitions.Faults.{wrong}
-use Rattle.fault_data.specs.in_rule_definitions.Told.{PlacedFault}
+use Rattle.fault_data.specs.in_rule_definitions.PlacedFaults.{PlacedFault}
 use Rattle.rule_types.specs.FaultLists.{first_named}
 use Rattle.rule_types.proofs.SeenFacts.{told_seen, place}
 use Rattle.rule_types.proofs.arguments.unique_input_value.Goals as goal

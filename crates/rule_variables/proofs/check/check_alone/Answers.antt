@@ -1,7 +1,7 @@
 use Rattle.std.proofs.lemmas.Result.{on_ok_weaker}
 use Rattle.schema_components.specs.Lists.{each_place}
-use Rattle.rule_uses.specs.in_fault_data.FaultView.{faults_of}
-use Rattle.rule_uses.specs.in_rule_values.Wanting.{variables_of}
+use Rattle.rule_arguments.specs.in_fault_data.FaultView.{faults_of}
+use Rattle.rule_arguments.specs.in_rule_values.Wanting.{variables_of}
 use Rattle.rule_definitions.proofs.Adding.{gains_both, gains_list}
 use Rattle.rule_variables.specs.VariableFaults.{repeated_variable}
 use Rattle.rule_variables.proofs.Told.{lists_repeated_variables}

@@ -3,13 +3,13 @@ use Rattle.std.proofs.lemmas.Result.{on_ok_weaker}
 use Rattle.graphql_names.specs.Placed.{Place, node_tree}
 use Rattle.document_typed_operations.specs.TypedDocument.{typed_operation_tree}
 use Rattle.document_typed_operations.specs.declared.operation.Operation.{Operation}
-use Rattle.rule_document_ground.specs.in_typed_operations.DocumentView.{meant_by_operation}
+use Rattle.rule_reach.specs.in_typed_operations.DocumentView.{meant_by_operation}
 use Rattle.rule_definitions.specs.Words.{AtSomeIndex}
 use Rattle.rule_definitions.specs.GivenValues.{Variables}
 use Rattle.graphql_schema.specs.SchemaOf.{schema_tree}
-use Rattle.rule_uses.specs.in_fault_data.FaultView.{faults_of}
-use Rattle.rule_uses.specs.in_fault_data.Adds.{Adds}
-use Rattle.rule_uses.specs.in_rule_values.Wanting.{variables_of}
+use Rattle.rule_arguments.specs.in_fault_data.FaultView.{faults_of}
+use Rattle.rule_arguments.specs.in_fault_data.Adds.{Adds}
+use Rattle.rule_arguments.specs.in_rule_values.Wanting.{variables_of}
 use Rattle.rule_definitions.proofs.Adding.{gains_same}
 use Rattle.rule_variables.specs.VariableFaults.{VariableBreaks}
 use Rattle.rule_variables.proofs.Under.{breaks_under}

@@ -4,14 +4,14 @@ use Rattle.std.proofs.lemmas.Result.{on_ok_weaker}
 use Rattle.graphql_names.specs.Placed.{Place, node_tree}
 use Rattle.document_typed_operations.specs.TypedDocument.{typed_operation_tree}
 use Rattle.document_typed_operations.specs.declared.operation.Operation.{Operation}
-use Rattle.rule_document_ground.specs.in_typed_operations.DocumentView.{meant_by_operation}
+use Rattle.rule_reach.specs.in_typed_operations.DocumentView.{meant_by_operation}
 use Rattle.rule_definitions.specs.GivenValues.{Variables}
-use Rattle.rule_uses.specs.in_fault_data.FaultView.{faults_of}
-use Rattle.rule_uses.specs.in_fault_data.Adds.{Adds}
-use Rattle.rule_uses.specs.in_rule_values.Wanting.{variables_of}
+use Rattle.rule_arguments.specs.in_fault_data.FaultView.{faults_of}
+use Rattle.rule_arguments.specs.in_fault_data.Adds.{Adds}
+use Rattle.rule_arguments.specs.in_rule_values.Wanting.{variables_of}
 use Rattle.rule_definitions.proofs.Adding.{gains_nothing, gains_same}
-use Rattle.rule_document_ground.specs.Reach.{reached_members, reached_fragments_of}
-use Rattle.rule_document_ground.specs.NotedNames.{noted_names}
+use Rattle.rule_reach.specs.Reach.{reached_members, reached_fragments_of}
+use Rattle.rule_reach.specs.NotedNames.{noted_names}
 use Rattle.rule_variables.specs.UsedNames.{with_used}
 use Rattle.rule_variables.specs.VariableFaults.{AloneBreaks}
 use Rattle.rule_variables.proofs.Gathered.{no_items, alone_is, none_break}

@@ -1,6 +1,6 @@
 use Rattle.std.proofs.Common.{◌≡◌, drop, map}
-use Rattle.rule_document_ground.specs.Reach.{fragment_of}
-use Rattle.rule_document_ground.specs.NotedNames.{noted_names}
+use Rattle.rule_reach.specs.Reach.{fragment_of}
+use Rattle.rule_reach.specs.NotedNames.{noted_names}
 use Rattle.rule_variables.specs.UsedNames.{with_fragments}
 use Rattle.rule_variables.proofs.reached.note_in_fragments.Given as goal
 

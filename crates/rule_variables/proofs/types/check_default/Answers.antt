@@ -9,9 +9,9 @@ use Rattle.rule_definitions.specs.Values.{ValueBreaks}
 use Rattle.graphql_schema.specs.SchemaOf.{schema_tree}
 use Rattle.schema_types.specs.Addresses.{place_at}
 use Rattle.rule_definitions.specs.Judged.{judged}
-use Rattle.rule_uses.specs.in_fault_data.FaultView.{faults_of}
-use Rattle.rule_uses.specs.in_fault_data.Adds.{Adds}
-use Rattle.rule_uses.specs.in_rule_values.Wanting.{wanted_type, variables_of}
+use Rattle.rule_arguments.specs.in_fault_data.FaultView.{faults_of}
+use Rattle.rule_arguments.specs.in_fault_data.Adds.{Adds}
+use Rattle.rule_arguments.specs.in_rule_values.Wanting.{wanted_type, variables_of}
 use Rattle.rule_definitions.proofs.Adding.{gains_same}
 use Rattle.rule_variables.specs.VariableFaults.{DefaultBreaks}
 use Rattle.rule_variables.proofs.Told.{of_default}

@@ -1,8 +1,8 @@
 use Rattle.std.proofs.Common.{take}
 use Rattle.rule_definitions.specs.Words.{AtSomeIndex}
 use Rattle.graphql_schema.specs.SchemaOf.{schema_tree}
-use Rattle.rule_uses.specs.in_fault_data.Adds.{Adds}
-use Rattle.rule_uses.specs.in_rule_values.Wanting.{variables_of}
+use Rattle.rule_arguments.specs.in_fault_data.Adds.{Adds}
+use Rattle.rule_arguments.specs.in_rule_values.Wanting.{variables_of}
 use Rattle.rule_variables.specs.VariableFaults.{VariableBreaks}
 use Rattle.rule_variables.proofs.types.check_each_variable.Given as goal
 

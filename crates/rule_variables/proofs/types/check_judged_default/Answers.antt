@@ -3,7 +3,7 @@ use Rattle.std.proofs.lemmas.Result.{on_ok_weaker}
 use Rattle.graphql_names.specs.Placed.{node_tree}
 use Rattle.tree_operations.specs.OperationTree.{variable_definition_tree}
 use Rattle.graphql_schema.specs.SchemaOf.{schema_tree}
-use Rattle.rule_uses.specs.in_fault_data.FaultView.{faults_of}
+use Rattle.rule_arguments.specs.in_fault_data.FaultView.{faults_of}
 use Rattle.rule_definitions.proofs.Adding.{gains_same, gains_nothing}
 use Rattle.rule_variables.specs.VariableFaults.{JudgedDefaultBreaks, is_of_input_type}
 use Rattle.rule_variables.proofs.types.check_judged_default.Goals as goal

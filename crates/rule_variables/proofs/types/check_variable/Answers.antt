@@ -10,11 +10,11 @@ use Rattle.schema_types.specs.Addresses.{place_at}
 use Rattle.rule_definitions.specs.Judged.{judged}
 use Rattle.rule_definitions.specs.Uses.{UsesBreak}
 use Rattle.graphql_schema.specs.SchemaOf.{schema_tree}
-use Rattle.rule_uses.specs.in_fault_data.FaultView.{faults_of}
-use Rattle.rule_uses.specs.in_fault_data.Adds.{Adds}
+use Rattle.rule_arguments.specs.in_fault_data.FaultView.{faults_of}
+use Rattle.rule_arguments.specs.in_fault_data.Adds.{Adds}
 use Rattle.rule_definitions.specs.Room.{◌⊕◌}
-use Rattle.rule_uses.specs.in_rule_values.Wanting.{variables_of}
-use Rattle.rule_uses.specs.Trees.{directives_of}
+use Rattle.rule_arguments.specs.in_rule_values.Wanting.{variables_of}
+use Rattle.rule_arguments.specs.Trees.{directives_of}
 use Rattle.rule_definitions.proofs.Adding.{gains_both, gains_list}
 use Rattle.rule_variables.specs.VariableFaults.{undefined_definition, variable_input_type}
 use Rattle.rule_variables.proofs.Told.{lists_undefined, lists_input_type}

@@ -3,9 +3,9 @@ use Rattle.std.proofs.lemmas.List.{take_all}
 use Rattle.graphql_names.specs.Placed.{node_tree}
 use Rattle.tree_operations.specs.OperationTree.{variable_definition_tree}
 use Rattle.rule_definitions.specs.Words.{AtSomeIndex}
-use Rattle.rule_uses.specs.in_fault_data.FaultView.{faults_of}
-use Rattle.rule_uses.specs.in_fault_data.Adds.{Adds}
-use Rattle.rule_uses.specs.in_rule_values.Wanting.{variables_of}
+use Rattle.rule_arguments.specs.in_fault_data.FaultView.{faults_of}
+use Rattle.rule_arguments.specs.in_fault_data.Adds.{Adds}
+use Rattle.rule_arguments.specs.in_rule_values.Wanting.{variables_of}
 use Rattle.rule_definitions.proofs.Listing.{mapped_more}
 use Rattle.rule_definitions.proofs.Adding.{gains_none, gains_more}
 use Rattle.rule_variables.specs.VariableFaults.{Defined, DefaultKeyBreaks}

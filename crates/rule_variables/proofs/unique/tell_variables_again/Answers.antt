@@ -3,10 +3,10 @@ use Rattle.graphql_names.specs.Placed.{node_tree}
 use Rattle.tree_operations.specs.OperationTree.{variable_definition_tree}
 use Rattle.tree_operations.specs.declared.operation.VariableDefinition.{VariableDefinition}
 use Rattle.rule_definitions.specs.Names.{defined_name}
-use Rattle.rule_uses.specs.in_fault_data.FaultView.{faults_of}
-use Rattle.rule_uses.specs.in_rule_values.Firsts.{first_told}
-use Rattle.rule_uses.specs.in_rule_values.Wanting.{variables_of}
-use Rattle.rule_uses.proofs.in_rule_values.in_inputs.Noted.{noted_next}
+use Rattle.rule_arguments.specs.in_fault_data.FaultView.{faults_of}
+use Rattle.rule_arguments.specs.in_rule_values.Firsts.{first_told}
+use Rattle.rule_arguments.specs.in_rule_values.Wanting.{variables_of}
+use Rattle.rule_arguments.proofs.in_rule_values.in_inputs.Noted.{noted_next}
 use Rattle.rule_definitions.proofs.Adding.{places_more}
 use Rattle.rule_variables.specs.VariableFaults.{repeated_variable}
 use Rattle.rule_variables.proofs.Told.{variable_again_is}

@@ -4,8 +4,8 @@ use Rattle.graphql_names.specs.Node.{place}
 use Rattle.tree_operations.specs.OperationTree.{variable_definition_tree}
 use Rattle.tree_operations.specs.declared.operation.VariableDefinition.{VariableDefinition}
 use Rattle.rule_definitions.specs.Values.{UniqueInputValueIn}
-use Rattle.rule_uses.specs.in_fault_data.FaultView.{faults_of}
-use Rattle.rule_uses.specs.in_fault_data.Adds.{Adds}
+use Rattle.rule_arguments.specs.in_fault_data.FaultView.{faults_of}
+use Rattle.rule_arguments.specs.in_fault_data.Adds.{Adds}
 use Rattle.rule_definitions.proofs.Adding.{gains_same}
 use Rattle.rule_variables.specs.VariableFaults.{DefaultKeyBreaks}
 use Rattle.rule_variables.proofs.Told.{of_default}

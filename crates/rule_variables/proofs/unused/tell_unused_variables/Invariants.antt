@@ -1,8 +1,8 @@
 use Rattle.std.proofs.Common.{take}
 use Rattle.rule_definitions.specs.Words.{AtSomeIndex}
-use Rattle.rule_uses.specs.in_fault_data.Adds.{Adds}
-use Rattle.rule_uses.specs.in_rule_values.Wanting.{variables_of}
-use Rattle.rule_document_ground.specs.NotedNames.{noted_names}
+use Rattle.rule_arguments.specs.in_fault_data.Adds.{Adds}
+use Rattle.rule_arguments.specs.in_rule_values.Wanting.{variables_of}
+use Rattle.rule_reach.specs.NotedNames.{noted_names}
 use Rattle.rule_variables.specs.VariableFaults.{UnusedAmong}
 use Rattle.rule_variables.proofs.unused.tell_unused_variables.Given as goal
 

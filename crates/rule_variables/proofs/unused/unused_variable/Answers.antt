@@ -6,10 +6,10 @@ use Rattle.tree_operations.specs.OperationTree.{variable_definition_tree}
 use Rattle.tree_operations.specs.declared.operation.VariableDefinition.{VariableDefinition}
 use Rattle.rule_definitions.specs.Diagnostics.{UnusedVariable}
 use Rattle.rule_definitions.specs.Faults.{wrong}
-use Rattle.rule_uses.specs.in_fault_data.FaultView.{faults_of}
+use Rattle.rule_arguments.specs.in_fault_data.FaultView.{faults_of}
 use Rattle.rule_definitions.proofs.Listing.{Lists}
 use Rattle.rule_definitions.proofs.Adding.{gains_list, gains_nothing}
-use Rattle.rule_document_ground.specs.NotedNames.{noted_names}
+use Rattle.rule_reach.specs.NotedNames.{noted_names}
 use Rattle.rule_variables.specs.VariableFaults.{UnusedAmong}
 use Rattle.rule_variables.proofs.Told.{lists_unused}
 use Rattle.rule_variables.proofs.unused.unused_variable.Goals as goal

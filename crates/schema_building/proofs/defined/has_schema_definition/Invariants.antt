@@ -1,5 +1,5 @@
 use Rattle.std.proofs.Common.{◌≡◌, drop, map, is_some}
-use Rattle.schema_built_in.specs.in_fold.Listed.{definitions_of}
+use Rattle.schema_built_in.specs.in_fold.NumberedDefinition.{definitions_of}
 use Rattle.schema_built_in.specs.in_fold.SchemaFold.{schema_definition_in}
 use Rattle.schema_built_in.specs.in_fold.ListedView.{listed_view}
 use Rattle.schema_building.proofs.defined.has_schema_definition.Given as goal

@@ -1,6 +1,6 @@
 use Rattle.std.proofs.Common.{◌≡◌, drop, map, is_some}
 use Rattle.std.specs.List.{list_any}
-use Rattle.schema_built_in.specs.in_fold.Listed.{definitions_of}
+use Rattle.schema_built_in.specs.in_fold.NumberedDefinition.{definitions_of}
 use Rattle.schema_built_in.specs.in_fold.SchemaFold.{schema_extension_here}
 use Rattle.schema_built_in.specs.in_fold.ListedView.{listed_view}
 use Rattle.schema_building.proofs.defined.has_schema_extension.Given as goal

@@ -1,5 +1,5 @@
 use Rattle.std.proofs.Common.{◌≡◌, drop, map}
-use Rattle.schema_built_in.specs.in_fold.Listed.{definitions_of}
+use Rattle.schema_built_in.specs.in_fold.NumberedDefinition.{definitions_of}
 use Rattle.schema_built_in.specs.in_fold.SchemaFold.{is_object_in}
 use Rattle.schema_built_in.specs.in_fold.ListedView.{listed_view}
 use Rattle.schema_building.proofs.defined.is_object.Given as goal

@@ -1,7 +1,7 @@
 use Rattle.std.proofs.Common.{map, subst}
 use Rattle.schema_fold.specs.in_schema_types.SchemaView.{schema_view}
 use Rattle.schema_fold.specs.FaultView.{fault_of, faults_of}
-use Rattle.schema_fold.specs.Listed.{definitions_of}
+use Rattle.schema_fold.specs.NumberedDefinition.{definitions_of}
 use Rattle.schema_fold.specs.ListedView.{listed_view}
 use Rattle.schema_fold_types.specs.Misplaced.{TellsMisplaced}
 use Rattle.schema_fold_lists.proofs.Folding.{folds_parts, folds_split, joined}

@@ -1,5 +1,5 @@
 use Rattle.std.proofs.Common.{◌≡◌, drop, map}
-use Rattle.schema_fold.specs.Listed.{definitions_of}
+use Rattle.schema_fold.specs.NumberedDefinition.{definitions_of}
 use Rattle.schema_fold.specs.SchemaFold.{schema_definition_in}
 use Rattle.schema_fold.specs.ListedView.{listed_view}
 use Rattle.schema_fold_roots.proofs.defined.first_schema.Given as goal

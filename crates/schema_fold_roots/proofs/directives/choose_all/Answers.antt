@@ -1,6 +1,6 @@
 use Rattle.std.proofs.Common.{◌<◌, ◌+◌, [], ◌∷◌, None, Some, map, take, length, sym, ◌∙◌, arith, subst}
 use Rattle.std.proofs.lemmas.List.{append-nil}
-use Rattle.schema_fold.specs.Listed.{directives_in, definitions_of}
+use Rattle.schema_fold.specs.NumberedDefinition.{directives_in, definitions_of}
 use Rattle.schema_fold.specs.ListedView.{listed_view}
 use Rattle.schema_fold_roots.specs.DirectiveFold.{Chooses}
 use Rattle.schema_fold_roots.specs.DirectivesView.{directive_view, entries_view}

@@ -1,5 +1,5 @@
 use Rattle.std.proofs.Common.{map, take}
-use Rattle.schema_fold.specs.Listed.{directives_in, definitions_of}
+use Rattle.schema_fold.specs.NumberedDefinition.{directives_in, definitions_of}
 use Rattle.schema_fold.specs.ListedView.{listed_view}
 use Rattle.schema_fold_roots.specs.DirectiveFold.{Chooses}
 use Rattle.schema_fold_roots.specs.DirectivesView.{entries_view}

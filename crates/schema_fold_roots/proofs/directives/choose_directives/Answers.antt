@@ -1,5 +1,5 @@
 use Rattle.std.proofs.Common.{[], map, ap}
-use Rattle.schema_fold.specs.Listed.{directives_in, definitions_of}
+use Rattle.schema_fold.specs.NumberedDefinition.{directives_in, definitions_of}
 use Rattle.schema_fold.specs.ListedView.{listed_view}
 use Rattle.schema_fold_roots.proofs.Choosing.{entry_view}
 use Rattle.schema_fold_roots.proofs.directives.choose_directives.Goals as goal

@@ -1,6 +1,6 @@
 use Rattle.std.proofs.Common.{◌≡◌, ◌++◌, map, ◌∙◌}
 use Rattle.std.proofs.lemmas.Result.{IfOk-weaker}
-use Rattle.schema_fold.specs.Listed.{directives_in, definitions_of}
+use Rattle.schema_fold.specs.NumberedDefinition.{directives_in, definitions_of}
 use Rattle.schema_fold.specs.ListedView.{listed_view}
 use Rattle.schema_fold.specs.Fold.{folded_directives}
 use Rattle.schema_fold.specs.FaultView.{faults_of}

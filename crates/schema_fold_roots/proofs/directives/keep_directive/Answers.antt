@@ -4,7 +4,7 @@ use Rattle.std.specs.Str.{bytes_eq}
 use Rattle.std.proofs.lemmas.Result.{IfOk-weaker}
 use Rattle.schema_fold.specs.BuildErrors.{DirectiveDefinitionCollision}
 use Rattle.schema_fold.specs.FaultView.{faults_of}
-use Rattle.schema_fold.specs.Listed.{directive_name}
+use Rattle.schema_fold.specs.NumberedDefinition.{directive_name}
 use Rattle.schema_fold.proofs.Keeping.{keeps_seen, keeps_new}
 use Rattle.schema_fold_roots.specs.DirectiveFold.{directive_fault}
 use Rattle.schema_fold_roots.specs.DirectivesView.{directive_view, entries_view}

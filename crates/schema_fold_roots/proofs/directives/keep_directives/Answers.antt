@@ -2,7 +2,7 @@ use Rattle.std.proofs.Common.{◌<◌, ◌++◌, None, Some, map, take, length, 
 use Rattle.std.proofs.lemmas.List.{append-nil}
 use Rattle.schema_fold.specs.Components.{keyed_firsts}
 use Rattle.schema_fold.specs.FaultView.{faults_of}
-use Rattle.schema_fold.specs.Listed.{directive_name, directives_in, definitions_of}
+use Rattle.schema_fold.specs.NumberedDefinition.{directive_name, directives_in, definitions_of}
 use Rattle.schema_fold.specs.ListedView.{listed_view}
 use Rattle.schema_fold.proofs.Keeping.{told_more}
 use Rattle.schema_fold_roots.specs.DirectiveFold.{directive_fault, directive_faults}

@@ -1,7 +1,7 @@
 use Rattle.std.proofs.Common.{◌≡◌, ◌++◌, map, take}
 use Rattle.schema_fold.specs.Components.{keyed_firsts}
 use Rattle.schema_fold.specs.FaultView.{faults_of}
-use Rattle.schema_fold.specs.Listed.{directive_name, directives_in, definitions_of}
+use Rattle.schema_fold.specs.NumberedDefinition.{directive_name, directives_in, definitions_of}
 use Rattle.schema_fold.specs.ListedView.{listed_view}
 use Rattle.schema_fold_roots.specs.DirectiveFold.{directive_faults}
 use Rattle.schema_fold_roots.specs.DirectivesView.{entries_view}

@@ -1,7 +1,7 @@
 use Rattle.std.proofs.Common.{◌==◌, [], ◌∷◌, ◌++◌, None, map, sym, ap, ◌∙◌, if◌then◌else◌}
 use Rattle.std.specs.List.{flat_map}
 use Rattle.schema_fold.specs.Components.{all_given}
-use Rattle.schema_fold.specs.Listed.{definitions_of}
+use Rattle.schema_fold.specs.NumberedDefinition.{definitions_of}
 use Rattle.schema_fold.specs.SchemaFold.{extends_schema, implicit_roots}
 use Rattle.schema_fold.specs.ListedView.{listed_view}
 use Rattle.schema_fold_roots.specs.ListFold.{Parts}

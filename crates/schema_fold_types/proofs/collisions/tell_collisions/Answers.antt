@@ -2,12 +2,12 @@ use Rattle.std.proofs.Common.{◌<◌, ◌||◌, ◌++◌, map, take, get_or, le
 use Rattle.schema_fold_index.specs.in_definitions.DefinitionTree.{definition_tree}
 use Rattle.schema_fold_index.specs.in_components.Lists.{has_name}
 use Rattle.schema_fold_index.specs.in_fold.FaultView.{faults_of}
-use Rattle.schema_fold_index.specs.in_fold.Listed.{type_name, types_in, definitions_of}
+use Rattle.schema_fold_index.specs.in_fold.NumberedDefinition.{type_name, types_in, definitions_of}
 use Rattle.schema_fold_index.specs.in_fold.ListedView.{listed_view}
 use Rattle.schema_fold_index.specs.in_fold.SchemaFold.{schema_definition_in}
 use Rattle.schema_fold_index.specs.Index.{is_filed_before}
-use Rattle.schema_fold_types.specs.Seen.{seen_of, collision_faults}
-use Rattle.schema_fold_types.specs.SeenView.{seen_view}
+use Rattle.schema_fold_types.specs.DefinedKinds.{seen_of, collision_faults}
+use Rattle.schema_fold_types.specs.DefinedKindsView.{seen_view}
 use Rattle.schema_fold_types.proofs.Before.{stands_before}
 use Rattle.schema_fold_types.proofs.Behind.{faults_are}
 use Rattle.schema_fold_index.proofs.Listing.{definitions_more, taken}

@@ -1,10 +1,10 @@
 use Rattle.std.proofs.Common.{◌≡◌, ◌++◌, map, take, is_some}
 use Rattle.schema_fold_index.specs.in_fold.FaultView.{faults_of}
-use Rattle.schema_fold_index.specs.in_fold.Listed.{definitions_of}
+use Rattle.schema_fold_index.specs.in_fold.NumberedDefinition.{definitions_of}
 use Rattle.schema_fold_index.specs.in_fold.ListedView.{listed_view}
 use Rattle.schema_fold_index.specs.in_fold.SchemaFold.{schema_definition_in}
-use Rattle.schema_fold_types.specs.Seen.{collision_faults}
-use Rattle.schema_fold_types.specs.SeenView.{seen_view}
+use Rattle.schema_fold_types.specs.DefinedKinds.{collision_faults}
+use Rattle.schema_fold_types.specs.DefinedKindsView.{seen_view}
 use Rattle.schema_fold_types.proofs.collisions.tell_collisions.Given as goal
 
 abbrev pub invariant-loop-position : goal.invariant-loop-position

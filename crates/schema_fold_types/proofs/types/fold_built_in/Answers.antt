@@ -4,7 +4,7 @@ use Rattle.schema_fold_index.specs.in_definitions.DefinitionTree.{definition_tre
 use Rattle.schema_fold_index.specs.in_schema_types.SchemaView.{types_view}
 use Rattle.schema_fold_index.specs.in_schema_types.TypeParts.{type_here}
 use Rattle.schema_fold_index.specs.in_fold.FaultView.{faults_of}
-use Rattle.schema_fold_index.specs.in_fold.Listed.{types_in, definitions_of}
+use Rattle.schema_fold_index.specs.in_fold.NumberedDefinition.{types_in, definitions_of}
 use Rattle.schema_fold_index.specs.in_fold.ListedView.{listed_view}
 use Rattle.schema_fold_index.specs.Index.{extensions_under}
 use Rattle.schema_fold_types.proofs.Folding.{folds_none, folds_then, types_more}

@@ -4,7 +4,7 @@ use Rattle.std.proofs.lemmas.List.{take_all}
 use Rattle.std.proofs.lemmas.Grind.{take_at_read}
 use Rattle.schema_fold_index.specs.in_schema_types.SchemaView.{types_view}
 use Rattle.schema_fold_index.specs.in_fold.FaultView.{faults_of}
-use Rattle.schema_fold_index.specs.in_fold.Listed.{definitions_of}
+use Rattle.schema_fold_index.specs.in_fold.NumberedDefinition.{definitions_of}
 use Rattle.schema_fold_index.specs.in_fold.ListedView.{listed_view}
 use Rattle.schema_fold_index.specs.Index.{defined_at, extensions_under}
 use Rattle.schema_fold_types.proofs.Folding.{folds_none, folds_then}

@@ -2,7 +2,7 @@ use Rattle.std.proofs.Common.{map, take}
 use Rattle.std.specs.List.{flat_map}
 use Rattle.schema_fold_index.specs.in_schema_types.SchemaView.{types_view}
 use Rattle.schema_fold_index.specs.in_fold.FaultView.{faults_of}
-use Rattle.schema_fold_index.specs.in_fold.Listed.{definitions_of}
+use Rattle.schema_fold_index.specs.in_fold.NumberedDefinition.{definitions_of}
 use Rattle.schema_fold_index.specs.in_fold.ListedView.{listed_view}
 use Rattle.schema_fold_types.specs.Filing.{FoldsOn}
 use Rattle.schema_fold_index.specs.Index.{defined_at, extensions_under}

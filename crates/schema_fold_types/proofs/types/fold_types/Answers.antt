@@ -1,7 +1,7 @@
 use Rattle.std.proofs.Common.{map, sym, ap, subst, ◌++◌, ◌∙◌}
 use Rattle.schema_fold_index.specs.in_schema_types.SchemaView.{types_view}
 use Rattle.schema_fold_index.specs.in_fold.FaultView.{faults_of}
-use Rattle.schema_fold_index.specs.in_fold.Listed.{types_in, definitions_of}
+use Rattle.schema_fold_index.specs.in_fold.NumberedDefinition.{types_in, definitions_of}
 use Rattle.schema_fold_index.specs.in_fold.ListedView.{listed_view}
 use Rattle.schema_fold_types.specs.OwnNames.{TypesUnderOwnNames}
 use Rattle.schema_fold_types.proofs.FoldedTypes.{folds_types, tells_types}

@@ -4,7 +4,14 @@ use Rattle.tree_definitions.specs.DefinitionTree.{definition_tree}
 use Rattle.schema_writing.specs.Contents.{type_contents}
 use Rattle.schema_writing.specs.ContentsView.{filed_parts}
 use Rattle.schema_writing.proofs.Written.{type_written}
+use Rattle.schema_writing.proofs.Whole.{whole_written}
 use Rattle.schema_writing.proofs.types.write_filed.Goals as goal
+
+pub returns-then-is_empty : goal.returns-then-is_empty
+returns-then-is_empty c =
+    let old = map definition_tree c.args.out.now.items in
+    let new = map definition_tree c.write_whole.new.out.items in
+    IfOk-weaker _ _ _ (λ _ h. whole_written c.args.t.now c.in_ok-extensions.extensions.keys old new c.in_ok-extensions.ensures (c.is_empty.ensures.0 c.if-is_empty.true) h) c.write_whole.ensures
 
 pub returns : goal.returns
 returns c =

@@ -1,7 +1,7 @@
 use Rattle.std.proofs.Common.{map, take}
 use Rattle.std.specs.Option.{option_copied}
-use Rattle.tree_meaning.specs.in_values.Joined.{joined}
-use Rattle.tree_meaning.specs.in_values.Levels.{level_depth}
+use Rattle.spec_tree.specs.in_operations.Joined.{joined}
+use Rattle.spec_tree.specs.in_operations.Levels.{level_depth}
 use Rattle.tree_definitions.specs.DefinitionTree.{definition_tree}
 use Rattle.tree_definitions.specs.DocumentLayout.{next_definition_text}
 use Rattle.tree_definitions.proofs.print_document.put_further_definitions.Given as goal

@@ -5,7 +5,7 @@ use Rattle.document_typed_operations.specs.declared.document.ExecutableDocument.
 use Rattle.document_typing.specs.MeaningView.{meanings_under}
 use Rattle.document_typing.specs.TypingFaults.{TypingFails}
 use Rattle.document_typing.specs.FaultView.{faults_of}
-use Rattle.document_typing.specs.Steps.{Typed, typed_in}
+use Rattle.document_typing.specs.TypedDefinitions.{Typed, typed_in}
 use Rattle.document_typing.specs.StepsView.{typed_view}
 use Rattle.schema_types.proofs.in_components.Places.{not_in_nil}
 use Rattle.document_typing.specs.OutDoc.{written_document}

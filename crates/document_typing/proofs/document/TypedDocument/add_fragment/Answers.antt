@@ -6,7 +6,7 @@ use Rattle.document_typed_operations.specs.TypedDocument.{typed_fragment_tree}
 use Rattle.document_typing.specs.FaultView.{faults_of}
 use Rattle.document_typing.specs.MeaningView.{schema_under, meanings_under}
 use Rattle.document_typing.specs.SetFaults.{set_faults}
-use Rattle.document_typing.specs.Steps.{is_under}
+use Rattle.document_typing.specs.TypedDefinitions.{is_under}
 use Rattle.document_typing.specs.StepsView.{fragment_meaning, typed_view}
 use Rattle.document_typing.specs.TypingFaults.{typing_fault_at, UndefinedTypeInNamedFragmentTypeCondition}
 use Rattle.document_typing.proofs.KnownNames.{known-under}

@@ -6,7 +6,7 @@ use Rattle.document_typing.specs.KeptDocument.{meant_operation}
 use Rattle.document_typing.specs.DefinedByPlace.{IsDefinedDocument}
 use Rattle.document_typing.specs.MeaningView.{schema_under, meanings_under}
 use Rattle.document_typing.specs.SetFaults.{set_faults}
-use Rattle.document_typing.specs.Steps.{Typed, based, is_known, name_faults}
+use Rattle.document_typing.specs.TypedDefinitions.{Typed, based, is_known, name_faults}
 use Rattle.document_typing.specs.StepsView.{fragment_meanings, typed_view}
 use Rattle.document_typing.proofs.AddedOperations.{and_kept, operation-put, told-known, checked, with-kept}
 use Rattle.graphql_names.specs.Placed.{Place, node_tree}

@@ -29,7 +29,7 @@ use Rattle.std.specs.contracts.impls.GlobalAllocator.TheImpl.{ghosts}
 use Rattle.std.proofs.alloc.Global.TheLaws as of_global
 use Rattle.graphql_checked_c.specs.Held.{token, held}
 use Rattle.graphql_checked_c.proofs.Handles.{word, handle_out}
-use Rattle.caller_memory.proofs.Pointers.{of_two, is_typed, pointer_made}
+use Rattle.ffi_memory.proofs.Pointers.{of_two, is_typed, pointer_made}
 use Rattle.graphql_checked_c.specs.contracts.handle.Kept as kept
 use Rattle.graphql_checked_c.specs.contracts.handle.Handle as handle
 use Rattle.graphql_checked_c.specs.contracts.handle.Handle.into_pointer.{ended, clauses}

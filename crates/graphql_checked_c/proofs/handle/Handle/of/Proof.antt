@@ -23,8 +23,8 @@ use Rattle.std.specs.contracts.alloc.Global as global
 use Rattle.std.specs.contracts.impls.GlobalAllocator.TheImpl.{ghosts}
 use Rattle.std.proofs.alloc.Global.TheLaws as of_global
 use Rattle.graphql_checked_c.proofs.Handles.{word, handle_in}
-use Rattle.caller_memory.specs.contracts.box_pointer.BoxPointer as pointer
-use Rattle.caller_memory.proofs.Pointers.{of_two, is_typed, pointer_parts}
+use Rattle.ffi_memory.specs.contracts.box_pointer.BoxPointer as pointer
+use Rattle.ffi_memory.proofs.Pointers.{of_two, is_typed, pointer_parts}
 use Rattle.graphql_checked_c.specs.contracts.handle.Kept as kept
 use Rattle.graphql_checked_c.specs.contracts.handle.Handle.of.{ended, clauses}
 use Rattle.graphql_checked_c.specs.contracts.handle.Handle.of.Key.{name as #self}

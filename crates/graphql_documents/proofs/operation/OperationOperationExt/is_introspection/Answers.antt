@@ -1,6 +1,6 @@
 use Rattle.std.proofs.Common.{rules}
-use Rattle.document_walks.specs.Reached.{document_fragments}
-use Rattle.document_walks.specs.Lending.{root_fields_left}
+use Rattle.document_typed_operations.specs.Reached.{document_fragments}
+use Rattle.document_typed_operations.specs.Lending.{root_fields_left}
 use Rattle.document_typed_operations.specs.TypedDocument.{typed_operation_tree, typed_document_tree}
 use Rattle.graphql_documents.proofs.Asking.{looked_at, no_query}
 use Rattle.graphql_documents.proofs.operation.OperationOperationExt.is_introspection.Goals as goal

@@ -1,8 +1,8 @@
 use Rattle.std.proofs.Common.{true, sym, subst}
 use Rattle.document_typed_selections.specs.TypedTree.{typed_set_tree}
-use Rattle.document_walks.specs.Reached.{IsWalk}
-use Rattle.document_walks.specs.Lending.{all_fields_left}
-use Rattle.document_walks.proofs.WalkLaws.{fragments_tree-document}
+use Rattle.document_typed_operations.specs.Reached.{IsWalk}
+use Rattle.document_typed_operations.specs.Lending.{all_fields_left}
+use Rattle.document_typed_operations.proofs.WalkLaws.{fragments_tree-document}
 use Rattle.graphql_documents.proofs.selection_set.SelectionSetSelectionSetExt.all_fields.Goals as goal
 
 pub returns-clause-walk : goal.returns-clause-walk

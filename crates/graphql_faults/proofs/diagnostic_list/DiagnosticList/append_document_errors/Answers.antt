@@ -1,8 +1,8 @@
 use Rattle.std.proofs.Common.{◌≡◌, ◌∷◌, [], ◌++◌, length, sym, ap, ◌∙◌, append_assoc, arith}
 use Rattle.std.specs.Vec.Iter.{into_iter_items}
 use Rattle.graphql_names.specs.Placed.{Place}
-use Rattle.fault_document_data.specs.FaultView.{fault_of}
-use Rattle.fault_document_data.specs.declared.build_error.BuildError.{BuildError}
+use Rattle.fault_document_errors.specs.FaultView.{fault_of}
+use Rattle.fault_document_errors.specs.declared.build_error.BuildError.{BuildError}
 use Rattle.graphql_faults.specs.DetailsTree.{of_typing}
 use Rattle.graphql_faults.proofs.Growing.{grown_more, grown_all, grown_kept}
 use Rattle.graphql_faults.proofs.diagnostic_list.DiagnosticList.append_document_errors.Goals as goal

@@ -1,6 +1,6 @@
 use Rattle.std.proofs.Common.{◌≡◌, ◌++◌, length, map}
 use Rattle.std.specs.Vec.Iter.{into_iter_items, into_iter_len}
-use Rattle.fault_document_data.specs.FaultView.{fault_of}
+use Rattle.fault_document_errors.specs.FaultView.{fault_of}
 use Rattle.graphql_faults.specs.DetailsTree.{of_typing}
 use Rattle.graphql_faults.specs.DetailsView.{diagnostics_of}
 use Rattle.graphql_faults.proofs.diagnostic_list.DiagnosticList.append_document_errors.Given as goal

@@ -1,5 +1,5 @@
 use Rattle.std.proofs.Common.{refl, subst}
-use Rattle.rule_number_lists.specs.NumberSet.{numbers_in, PutsIn}
+use Rattle.list_interner.specs.NumberSet.{numbers_in, PutsIn}
 use Rattle.rule_field_groups.specs.NodeWalk.{state_of}
 use Rattle.rule_field_groups.proofs.Walking.{member_there, member_added}
 use Rattle.rule_field_groups.proofs.node_walk.NodeWalk.pass_member.Goals as goal

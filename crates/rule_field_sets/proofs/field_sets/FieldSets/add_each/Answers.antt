@@ -1,6 +1,6 @@
 use Rattle.std.proofs.Common.{◌≡◌, ◌∙◌, ◌<◌, ◌++◌, ◌∷◌, [], ◌+◌, ℕ, List, length, get_or, take, sym, ap, subst, append-nil, append_assoc, arith}
 use Rattle.std.proofs.lemmas.List.{map-append, take_all}
-use Rattle.rule_document_ground.specs.declared.field_selection.FieldSelection.{FieldSelection}
+use Rattle.rule_reach.specs.declared.field_selection.FieldSelection.{FieldSelection}
 use Rattle.rule_field_sets.specs.declared.found.FoundField.{FoundField}
 use Rattle.rule_field_sets.specs.Found.{set_of}
 use Rattle.rule_field_sets.specs.Nodes.{set_nodes}

@@ -1,7 +1,7 @@
 use Rattle.std.proofs.Common.{refl}
 use Rattle.rule_definitions.specs.Judged.{judged}
 use Rattle.graphql_schema.specs.SchemaOf.{schema_tree}
-use Rattle.document_walks.specs.WalkView.{fragments_tree}
+use Rattle.document_typed_operations.specs.WalkView.{fragments_tree}
 use Rattle.rule_field_sets.specs.Numbered.{tables_of, nodes_of}
 use Rattle.rule_field_sets.proofs.NoNodes.{none_yet}
 use Rattle.rule_field_sets.proofs.field_sets.FieldSets.new.Goals as goal

@@ -1,7 +1,7 @@
 use Rattle.std.proofs.Common.{refl, ap}
 use Rattle.document_typed_selections.specs.declared.selection.FragmentSpread.{FragmentSpread}
 use Rattle.document_typed_selections.specs.declared.selection.Selection.TheViews.{out-Selection}
-use Rattle.document_walks.proofs.Standings.{ok_so}
+use Rattle.document_typed_operations.proofs.Standings.{ok_so}
 use Rattle.rule_field_sets.specs.Opened.{state_of, left_of}
 use Rattle.rule_field_sets.proofs.Opening.{field_passed, spread_passed, inline_passed}
 use Rattle.rule_field_sets.proofs.found.Finding.pass.Goals as goal

@@ -1,12 +1,12 @@
 use Rattle.std.proofs.Common.{◌≡◌, ◌≤◌, List, Contains, [], ◌∷◌, length, map, sym, ap, subst, append-nil, arith}
 use Rattle.std.proofs.lemmas.Result.{IfOk-weaker}
 use Rattle.graphql_names.specs.Placed.{Place}
-use Rattle.rule_number_lists.specs.NumberRows.{rows_of}
-use Rattle.rule_field_groups.specs.in_meaning.MeantTree.{MeantOperation}
+use Rattle.list_interner.specs.NumberRows.{rows_of}
+use Rattle.rule_field_groups.specs.in_spec_document.MeantTree.{MeantOperation}
 use Rattle.rule_field_groups.proofs.in_definitions.Lists.{not_in_nil}
 use Rattle.rule_field_groups.specs.in_document_definitions.Limits.{chain_bound}
-use Rattle.rule_field_groups.specs.in_sets.in_ground.Broken.{brokens_of}
-use Rattle.rule_field_groups.specs.Remembered.{account_of, kept_of}
+use Rattle.rule_field_groups.specs.in_sets.in_reach.Broken.{brokens_of}
+use Rattle.rule_field_groups.specs.MergeState.{account_of, kept_of}
 use Rattle.rule_merging.specs.Counted.{AreListed}
 use Rattle.rule_merging.specs.Examined.{ExaminesSets, schema_of, document_of, sets_of}
 use Rattle.rule_field_groups.specs.Under.{Sets, all_sets, sets_in}

@@ -1,10 +1,10 @@
 use Rattle.std.proofs.Common.{◌≡◌, ◌∷◌, [], ◌≤◌, ◌++◌, ◌-◌, List}
 use Rattle.graphql_names.specs.Placed.{Place}
 use Rattle.rule_field_groups.specs.in_document_definitions.DocumentFaults.{Broken}
-use Rattle.rule_field_groups.specs.in_meaning.MeantTree.{MeantOperation}
-use Rattle.rule_field_groups.specs.in_sets.in_ground.Broken.{brokens_of}
+use Rattle.rule_field_groups.specs.in_spec_document.MeantTree.{MeantOperation}
+use Rattle.rule_field_groups.specs.in_sets.in_reach.Broken.{brokens_of}
 use Rattle.rule_merging.specs.Counted.{AreListed}
-use Rattle.rule_field_groups.specs.Remembered.{kept_of}
+use Rattle.rule_field_groups.specs.MergeState.{kept_of}
 use Rattle.rule_field_groups.specs.in_sets.Read.{set_at}
 use Rattle.rule_field_groups.specs.Under.{sets_in}
 use Rattle.rule_merging.specs.Examined.{schema_of, document_of, sets_of, GrowsOver}

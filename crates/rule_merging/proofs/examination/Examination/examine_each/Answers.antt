@@ -4,9 +4,9 @@ use Rattle.std.proofs.lemmas.List.Elements.{Contains-append_left}
 use Rattle.std.proofs.Common.{List, drop, ◌<◌, ◌+◌, ◌∷◌, [], take, length, sym, ap, subst, arith, inl, inr}
 use Rattle.std.proofs.lemmas.List.{take_all}
 use Rattle.rule_field_groups.proofs.in_definitions.Lists.{not_in_nil, only, Contains-first}
-use Rattle.rule_field_groups.specs.in_sets.in_ground.Broken.{brokens_of}
+use Rattle.rule_field_groups.specs.in_sets.in_reach.Broken.{brokens_of}
 use Rattle.rule_field_groups.specs.Under.{sets_in}
-use Rattle.rule_field_groups.specs.Remembered.{account_of, kept_of}
+use Rattle.rule_field_groups.specs.MergeState.{account_of, kept_of}
 use Rattle.rule_merging.specs.Examined.{schema_of, document_of, sets_of}
 use Rattle.rule_merging.specs.Twos.{are_of, PairsFields}
 use Rattle.rule_field_groups.proofs.in_document_definitions.Unplaced.{contains_map}

@@ -1,6 +1,6 @@
 use Rattle.std.proofs.Common.{take}
 use Rattle.rule_field_groups.specs.Under.{sets_in}
-use Rattle.rule_field_groups.specs.Remembered.{kept_of}
+use Rattle.rule_field_groups.specs.MergeState.{kept_of}
 use Rattle.rule_merging.specs.Examined.{sets_of}
 use Rattle.rule_merging.specs.Twos.{are_of, PairsFields, GrowsByTwo}
 use Rattle.rule_merging.proofs.examination.Examination.examine_each.Given as goal

@@ -1,12 +1,12 @@
 use Rattle.std.proofs.Common.{◌≡◌, ◌∙◌, ◌<◌, ◌≤◌, [], ◌∷◌, map, take, length, get_or, sym, ap, subst, arith}
 use Rattle.std.proofs.lemmas.List.{take_all, get_or_default}
-use Rattle.rule_number_lists.specs.NumberRows.{rows_of}
-use Rattle.rule_number_lists.specs.declared.number_rows.NumberRows.{NumberRows}
+use Rattle.list_interner.specs.NumberRows.{rows_of}
+use Rattle.list_interner.specs.declared.number_rows.NumberRows.{NumberRows}
 use Rattle.rule_field_groups.proofs.in_document_definitions.Unplaced.{contains_map}
-use Rattle.rule_field_groups.specs.in_sets.in_ground.Broken.{brokens_of}
+use Rattle.rule_field_groups.specs.in_sets.in_reach.Broken.{brokens_of}
 use Rattle.rule_merging.specs.Counted.{AreListed}
 use Rattle.rule_field_groups.specs.Members.{meant_sets}
-use Rattle.rule_field_groups.specs.Remembered.{account_of, kept_of}
+use Rattle.rule_field_groups.specs.MergeState.{account_of, kept_of}
 use Rattle.rule_merging.specs.Examined.{ExaminesSets, schema_of, document_of, sets_of}
 use Rattle.rule_field_groups.specs.Under.{all_sets, sets_in}
 use Rattle.rule_merging.proofs.Examining.{front_more, none_told, lists_step}

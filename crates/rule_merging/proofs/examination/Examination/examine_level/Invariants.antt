@@ -1,7 +1,7 @@
 use Rattle.std.proofs.Common.{[], map, take}
-use Rattle.rule_number_lists.specs.NumberRows.{rows_of}
+use Rattle.list_interner.specs.NumberRows.{rows_of}
 use Rattle.rule_field_groups.specs.Members.{meant_sets}
-use Rattle.rule_field_groups.specs.Remembered.{kept_of}
+use Rattle.rule_field_groups.specs.MergeState.{kept_of}
 use Rattle.rule_field_groups.specs.Under.{sets_in}
 use Rattle.rule_merging.specs.Examined.{sets_of, ExaminesSets, GrowsOver}
 use Rattle.rule_merging.proofs.examination.Examination.examine_level.Given as goal

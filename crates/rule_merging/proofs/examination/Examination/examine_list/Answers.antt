@@ -3,7 +3,7 @@ use Rattle.std.specs.List.{sum, flat_map}
 use Rattle.std.proofs.lemmas.List.{take_all}
 use Rattle.graphql_names.specs.Placed.{Place}
 use Rattle.rule_field_groups.specs.in_document_definitions.Selected.{StandingField}
-use Rattle.rule_field_groups.specs.in_sets.in_ground.Broken.{brokens_of}
+use Rattle.rule_field_groups.specs.in_sets.in_reach.Broken.{brokens_of}
 use Rattle.rule_field_groups.specs.Members.{fields_of}
 use Rattle.rule_field_groups.specs.Compared.{compared}
 use Rattle.rule_field_groups.specs.Grouped.{ArePartsOf}

@@ -1,13 +1,13 @@
 use Rattle.std.proofs.Common.{◌∙◌, ◌∷◌, [], true, false, map, ap, sym, subst}
-use Rattle.rule_field_groups.specs.in_sets.in_ground.Broken.{brokens_of}
-use Rattle.rule_number_lists.specs.NumberLists.{lists_kept}
+use Rattle.rule_field_groups.specs.in_sets.in_reach.Broken.{brokens_of}
+use Rattle.list_interner.specs.NumberLists.{lists_kept}
 use Rattle.rule_field_groups.specs.in_sets.Read.{set_content_at}
 use Rattle.rule_field_groups.specs.Members.{meant_sets, read_sets}
 use Rattle.rule_field_groups.specs.Under.{sets_in}
 use Rattle.rule_merging.specs.Counted.{AreListed, Grows}
-use Rattle.rule_field_groups.specs.Remembered.{account_of, kept_of, Expands}
+use Rattle.rule_field_groups.specs.MergeState.{account_of, kept_of, Expands}
 use Rattle.rule_merging.specs.Examined.{schema_of, document_of, sets_of}
-use Rattle.rule_field_groups.specs.declared.remembered.Remembered.{Remembered}
+use Rattle.rule_field_groups.specs.declared.merge_state.MergeState.{MergeState}
 use Rattle.rule_merging.proofs.Examining.{SetsTold, looked_then, looked_before}
 use Rattle.rule_merging.proofs.Counting.{Premise, grows_same}
 use Rattle.rule_merging.proofs.examination.Examination.examine_once.Goals.{then-branch+in_ok-examine_paid, else-branch}
@@ -37,12 +37,12 @@ returns-clause-examined c =
           let apart : SetsTold e.pass s d told later (record base { expanded = [] }) mid next last (sets ∷ []) =
           subst (λ ls. SetsTold e.pass s d told later (record base { expanded = ls }) mid next last (sets ∷ [])) none b.in_ok-examine_paid.ensures.examined in
           subst (λ l. SetsTold e.pass s d told (brokens_of l) base (record (kept_of w c.if-branch.examined) { expanded = now }) next (sets_in w c.if-branch.examined.next) (sets ∷ [])) (sym b.breaches-is)
-          (subst (λ (x : Remembered). SetsTold e.pass s d told later base (record (kept_of w x) { expanded = now }) next (sets_in w x.next) (sets ∷ [])) (sym b.examined-is)
+          (subst (λ (x : MergeState). SetsTold e.pass s d told later base (record (kept_of w x) { expanded = now }) next (sets_in w x.next) (sets ∷ [])) (sym b.examined-is)
           (looked_then e.pass s d sets base mid now told later next last fresh apart))
       | else-branch b ↦
           let known : Expands base.expanded (read_sets sets) false now = subst (λ n. Expands base.expanded (read_sets sets) n now) b.if-branch.false here in
           subst (λ l. SetsTold e.pass s d told (brokens_of l) base (record (kept_of w c.if-branch.examined) { expanded = now }) next (sets_in w c.if-branch.examined.next) (sets ∷ [])) (sym b.breaches-is)
-          (subst (λ (x : Remembered). SetsTold e.pass s d told told base (record (kept_of w x) { expanded = now }) next (sets_in w x.next) (sets ∷ [])) (sym b.examined-is)
+          (subst (λ (x : MergeState). SetsTold e.pass s d told told base (record (kept_of w x) { expanded = now }) next (sets_in w x.next) (sets ∷ [])) (sym b.examined-is)
           (looked_before e.pass s d sets base now told next known))
     ]
 
@@ -54,6 +54,6 @@ returns-clause-counted c =
     let Given : Premise d = λ os. AreListed d os (meant_sets w c.args.nodes.now ∷ []) in
     let old = account_of w c.args.examined.now in
     elim c.if-branch.branch [
-      | then-branch+in_ok-examine_paid b ↦ subst (λ (x : Remembered). Grows d Given e.pass old (account_of w x)) (sym b.examined-is) b.in_ok-examine_paid.ensures.counted
+      | then-branch+in_ok-examine_paid b ↦ subst (λ (x : MergeState). Grows d Given e.pass old (account_of w x)) (sym b.examined-is) b.in_ok-examine_paid.ensures.counted
       | else-branch b ↦ grows_same d Given e.pass old (account_of w c.if-branch.examined) (ap (account_of w) b.examined-is)
     ]

@@ -1,12 +1,12 @@
 use Rattle.std.proofs.Common.{◌≡◌, ◌∙◌, ◌∷◌, ◌++◌, [], true, false, refl, ap, sym, subst, append-nil}
 use Rattle.std.specs.Prelude.{Some, is_some}
 use Rattle.std.proofs.lemmas.Result.{on_ok_weaker}
-use Rattle.rule_field_groups.specs.in_sets.in_ground.Broken.{brokens_of}
+use Rattle.rule_field_groups.specs.in_sets.in_reach.Broken.{brokens_of}
 use Rattle.rule_field_groups.specs.Members.{contents_of, meant_sets, AreMembersOf}
 use Rattle.rule_field_groups.specs.Below.{IsMergedIn, IsPartOfMergedIn}
 use Rattle.rule_field_groups.specs.Paid.{Pays, IsPaidIf}
 use Rattle.rule_merging.specs.Counted.{AreLast, AreListed}
-use Rattle.rule_field_groups.specs.Remembered.{Kept, account_of, kept_of, Remembers, RemembersPaid}
+use Rattle.rule_field_groups.specs.MergeState.{Kept, account_of, kept_of, Remembers, RemembersPaid}
 use Rattle.rule_field_groups.specs.Under.{sets_in}
 use Rattle.rule_merging.specs.Examined.{schema_of, document_of, sets_of}
 use Rattle.rule_merging.proofs.Examining.{SetsTold, new_fields, known_fields}

@@ -8,12 +8,12 @@ use Rattle.rule_field_groups.specs.in_sets.declared.field_sets.FieldSets.{FieldS
 use Rattle.rule_field_groups.specs.in_sets.Nodes.{set_nodes, fragment_nodes}
 use Rattle.rule_field_groups.specs.in_sets.Read.{set_at}
 use Rattle.rule_field_groups.specs.Members.{meant_sets, AreMembersOf}
-use Rattle.rule_field_groups.specs.Remembered.{account_of, kept_of}
+use Rattle.rule_field_groups.specs.MergeState.{account_of, kept_of}
 use Rattle.rule_field_groups.specs.Pairs.{with_each, each_with}
 use Rattle.rule_merging.specs.Examined.{Sets, HasSets, GrowsOverTwo, schema_of, document_of, sets_of}
 use Rattle.rule_merging.specs.Twos.{are_of, GrowsByTwo}
 use Rattle.rule_merging.specs.declared.examination.Examination.{Examination}
-use Rattle.rule_field_groups.specs.declared.remembered.Remembered.{Remembered}
+use Rattle.rule_field_groups.specs.declared.merge_state.MergeState.{MergeState}
 use Rattle.rule_field_groups.proofs.Looking.{looks_none, looks_both}
 use Rattle.rule_field_groups.proofs.NodeFacts.{member_selected}
 use Rattle.rule_merging.proofs.PairStep.{IsOpened, pair_examined, pair_listed}
@@ -40,7 +40,7 @@ module _ (e : Examination) (has : HasSets e) (n m : ℕ) (v u : SetNode) (at : s
   two = set_at (sets_of e) n ∷ set_at (sets_of e) m ∷ []
 
   -- what comes to lists of fields for their members comes for the two
-  by_members : (old new : Remembered) → GrowsByTwo e (are_of ones others) old new → GrowsOverTwo e two old new
+  by_members : (old new : MergeState) → GrowsByTwo e (are_of ones others) old new → GrowsOverTwo e two old new
   by_members old new grows =
       let w = sets_of e in
       let d = document_of e in
@@ -50,7 +50,7 @@ module _ (e : Examination) (has : HasSets e) (n m : ℕ) (v u : SetNode) (at : s
       e.pass (account_of w old) (account_of w new) grows
 
   -- and where nothing more is counted
-  and_no_more : (old mid new : Remembered) → GrowsByTwo e (are_of ones others) old mid → account_of (sets_of e) new ≡ account_of (sets_of e) mid → GrowsOverTwo e two old new
+  and_no_more : (old mid new : MergeState) → GrowsByTwo e (are_of ones others) old mid → account_of (sets_of e) new ≡ account_of (sets_of e) mid → GrowsOverTwo e two old new
   and_no_more old mid new grows same =
       let w = sets_of e in
       grows_on (document_of e) _ e.pass (account_of w old) (account_of w mid) (account_of w new) (by_members old mid grows) (grows_same (document_of e) _ e.pass (account_of w mid) (account_of w new) same)

@@ -3,23 +3,23 @@ use Rattle.std.specs.Prelude.{option_to_list}
 use Rattle.std.proofs.lemmas.List.{length-map, length-append, map-append, nil_from_length}
 use Rattle.std.proofs.lemmas.List.Elements.{Contains-append_right}
 use Rattle.graphql_names.specs.Placed.{Place}
-use Rattle.rule_field_groups.specs.in_meaning.MeantTree.{MeantOperation, MeantDocument}
+use Rattle.rule_field_groups.specs.in_spec_document.MeantTree.{MeantOperation, MeantDocument}
 use Rattle.rule_field_groups.proofs.in_definitions.Lists.{only, Contains-first}
-use Rattle.rule_number_lists.specs.NumberPairs.{pairs_kept}
-use Rattle.rule_field_groups.specs.in_sets.in_ground.Broken.{brokens_of}
+use Rattle.list_interner.specs.NumberPairs.{pairs_kept}
+use Rattle.rule_field_groups.specs.in_sets.in_reach.Broken.{brokens_of}
 use Rattle.rule_field_groups.specs.in_sets.Read.{set_content_at}
 use Rattle.rule_field_groups.specs.in_sets.declared.field_sets.FieldSets.{FieldSets}
 use Rattle.rule_field_groups.specs.in_document_definitions.PlainFields.{IsSelected}
 use Rattle.rule_field_groups.specs.in_document_definitions.ReadFields.{ReadSet}
 use Rattle.rule_field_groups.specs.Under.{sets_in}
 use Rattle.rule_merging.specs.Counted.{AreListed}
-use Rattle.rule_field_groups.specs.Remembered.{account_of, kept_of, looked_in, both_in, two_of}
+use Rattle.rule_field_groups.specs.MergeState.{account_of, kept_of, looked_in, both_in, two_of}
 use Rattle.rule_merging.specs.Examined.{Sets, SelectsAsMuch, ExaminesSome, schema_of, document_of, sets_of}
 use Rattle.rule_merging.proofs.Pairing.{brokens_long}
 use Rattle.rule_merging.proofs.PairStep.{no_pairs, pairs_step}
 use Rattle.rule_merging.proofs.Counting.{grows_not, grows_with, listed_wider, looked_bounded}
-use Rattle.rule_field_groups.specs.declared.remembered.Pair.{Pair}
-use Rattle.rule_field_groups.specs.declared.remembered.Remembered.{Remembered}
+use Rattle.rule_field_groups.specs.declared.merge_state.Pair.{Pair}
+use Rattle.rule_field_groups.specs.declared.merge_state.MergeState.{MergeState}
 use Rattle.rule_merging.proofs.examination.Examination.examine_pairs.Goals as goal
 
 -- the pair that is taken is the last one
@@ -79,7 +79,7 @@ loop-pair-preserved c =
     }
 
 -- one pair less waits, or is looked at, for each that comes
-fewer : (w : FieldSets) (old new : Remembered) (here rest here' : List Pair) (pair : Pair) (pairs : List Sets) → here ≡ rest ++ pair ∷ [] → map (two_of w) here' ≡ map (two_of w) rest ++ pairs
+fewer : (w : FieldSets) (old new : MergeState) (here rest here' : List Pair) (pair : Pair) (pairs : List Sets) → here ≡ rest ++ pair ∷ [] → map (two_of w) here' ≡ map (two_of w) rest ++ pairs
     → length (looked_in w new) ≡ length (looked_in w old) + length pairs
     → (2 ^ 126 - length (pairs_kept new.looked)) + length here' < (2 ^ 126 - length (pairs_kept old.looked)) + length here
 fewer w old new here rest here' pair pairs is more count = omega (

@@ -1,7 +1,7 @@
 use Rattle.std.proofs.Common.{◌+◌, ◌-◌, ◌^◌, length}
-use Rattle.rule_number_lists.specs.NumberPairs.{pairs_kept}
+use Rattle.list_interner.specs.NumberPairs.{pairs_kept}
 use Rattle.rule_field_groups.specs.Under.{sets_in}
-use Rattle.rule_field_groups.specs.Remembered.{kept_of}
+use Rattle.rule_field_groups.specs.MergeState.{kept_of}
 use Rattle.rule_merging.specs.Examined.{sets_of, ExaminesSome, GrowsHere}
 use Rattle.rule_merging.proofs.examination.Examination.examine_pairs.Given as goal
 

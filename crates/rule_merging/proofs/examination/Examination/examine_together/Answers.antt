@@ -6,7 +6,7 @@ use Rattle.rule_merging.proofs.examination.Examination.examine_together.Goals as
 pub returns-clause-examined : goal.returns-clause-examined
 returns-clause-examined c =
     let e = c.args.self.now in
-    let told = c.in_ok-check_group.ensures.told in
+    let told = c.in_ok-compare.ensures.told in
     on_ok_weaker c.push_below.result
     (λ h. (
       told.0,

@@ -1,6 +1,6 @@
 use Rattle.std.proofs.Common.{◌≡◌, ◌∙◌, ◌++◌, Bool, true, false, List, refl, ap, sym, subst, true≢false}
 use Rattle.std.proofs.lemmas.Result.{on_ok_weaker}
-use Rattle.rule_field_groups.specs.in_sets.in_ground.Broken.{brokens_of}
+use Rattle.rule_field_groups.specs.in_sets.in_reach.Broken.{brokens_of}
 use Rattle.rule_field_groups.specs.in_document_definitions.ReadFields.{ReadField}
 use Rattle.rule_field_groups.specs.in_sets.declared.member.Member.{Member}
 use Rattle.rule_field_groups.specs.in_sets.declared.field_sets.FieldSets.{FieldSets}
@@ -8,10 +8,10 @@ use Rattle.rule_field_groups.specs.in_sets.Nodes.{AreSets, HasMember}
 use Rattle.rule_field_groups.proofs.in_sets.Among.{one_number}
 use Rattle.rule_field_groups.specs.Members.{contents_of, contents_of_two}
 use Rattle.rule_field_groups.specs.Under.{sets_in}
-use Rattle.rule_field_groups.specs.Remembered.{Kept, account_of, kept_of, remembered, Remembers}
+use Rattle.rule_field_groups.specs.MergeState.{Kept, account_of, kept_of, remembered, Remembers}
 use Rattle.rule_merging.specs.Examined.{schema_of, document_of, sets_of}
 use Rattle.rule_merging.specs.Twos.{are_two, IsListOf, IsListOfTwo}
-use Rattle.rule_field_groups.specs.declared.remembered.Remembered.{Remembered}
+use Rattle.rule_field_groups.specs.declared.merge_state.MergeState.{MergeState}
 use Rattle.rule_merging.proofs.Pairing.{PairedTold, paired_apart, paired_known, paired_now, by_contents, members_of_two, read_of_two, some_list}
 use Rattle.rule_merging.proofs.Joining.{together_so, so_together, is_list_of_two, all_together}
 use Rattle.rule_merging.proofs.Counting.{grows_not, grows_same, grows_two}
@@ -26,7 +26,7 @@ read_so : (one other : Member) (list : List Member) (old new : Kept) (is_new : B
 read_so one other list old new is_new two h = subst (λ (l : List ReadField). Remembers old l is_new new) (sym (read_of_two one other list two)) h
 
 -- where no list comes, nothing is counted
-same_account : (w : FieldSets) (old new : Remembered) → account_of w new ≡ record (account_of w old) { lists = remembered w new } → kept_of w new ≡ kept_of w old → account_of w new ≡ account_of w old
+same_account : (w : FieldSets) (old new : MergeState) → account_of w new ≡ record (account_of w old) { lists = remembered w new } → kept_of w new ≡ kept_of w old → account_of w new ≡ account_of w old
 same_account w old new is same = is ∙ ap (λ (k : Kept). record (account_of w old) { lists = k.lists }) same
 
 pub returns-then-not-go_together-clause-examined : goal.returns-then-not-go_together-clause-examined

@@ -2,13 +2,13 @@ use Rattle.std.proofs.Common.{◌≡◌, ◌∙◌, ◌<◌, ◌+◌, ℕ, ◌�
 use Rattle.std.proofs.lemmas.List.{map-append, take-append-drop, take_all, get_or_default}
 use Rattle.std.proofs.lemmas.List.Elements.{Contains-append_left, Contains-append_right}
 use Rattle.graphql_names.specs.Placed.{Place}
-use Rattle.rule_field_groups.specs.in_meaning.MeantTree.{MeantSet, MeantOperation, MeantDocument}
-use Rattle.rule_field_groups.specs.in_sets.in_ground.Broken.{brokens_of}
+use Rattle.rule_field_groups.specs.in_spec_document.MeantTree.{MeantSet, MeantOperation, MeantDocument}
+use Rattle.rule_field_groups.specs.in_sets.in_reach.Broken.{brokens_of}
 use Rattle.rule_field_groups.specs.in_sets.Read.{set_at}
 use Rattle.rule_field_groups.specs.Under.{Sets, sets_in}
 use Rattle.rule_field_groups.specs.Members.{meant_sets}
 use Rattle.rule_merging.specs.Counted.{AreListed}
-use Rattle.rule_field_groups.specs.Remembered.{account_of, kept_of}
+use Rattle.rule_field_groups.specs.MergeState.{account_of, kept_of}
 use Rattle.rule_merging.specs.Examined.{schema_of, document_of, sets_of, ExaminesTwos}
 use Rattle.rule_field_groups.specs.Pairs.{AreTwosOf}
 use Rattle.rule_field_groups.specs.Pairs.{each_with}

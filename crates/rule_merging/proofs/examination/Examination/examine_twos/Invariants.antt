@@ -1,7 +1,7 @@
 use Rattle.std.proofs.Common.{◌≡◌, ◌∷◌, [], List, take}
 use Rattle.rule_field_groups.specs.Members.{meant_sets}
 use Rattle.rule_field_groups.specs.Under.{Sets, sets_in}
-use Rattle.rule_field_groups.specs.Remembered.{kept_of}
+use Rattle.rule_field_groups.specs.MergeState.{kept_of}
 use Rattle.rule_merging.specs.Examined.{sets_of, ExaminesTwos, GrowsOver}
 use Rattle.rule_field_groups.specs.Pairs.{AreTwosOf}
 use Rattle.rule_merging.proofs.examination.Examination.examine_twos.Given as goal

@@ -1,9 +1,9 @@
 use Rattle.std.proofs.Common.{◌<◌, ◌+◌, ◌∷◌, [], take, length, Contains, sym, subst, arith, inl, inr}
 use Rattle.std.proofs.lemmas.List.{take_all}
 use Rattle.rule_field_groups.proofs.in_definitions.Lists.{not_in_nil, only, Contains-first}
-use Rattle.rule_field_groups.specs.in_sets.in_ground.Broken.{brokens_of}
+use Rattle.rule_field_groups.specs.in_sets.in_reach.Broken.{brokens_of}
 use Rattle.rule_field_groups.specs.Under.{sets_in}
-use Rattle.rule_field_groups.specs.Remembered.{account_of, kept_of}
+use Rattle.rule_field_groups.specs.MergeState.{account_of, kept_of}
 use Rattle.rule_merging.specs.Examined.{schema_of, document_of, sets_of}
 use Rattle.rule_merging.specs.Twos.{are_two, are_of, PairsFields}
 use Rattle.rule_merging.proofs.Pairing.{told_none, told_both, front_of, of_front}

@@ -1,13 +1,13 @@
 use Rattle.std.proofs.Common.{◌∙◌, [], List, Contains, ap, subst}
 use Rattle.std.proofs.lemmas.Result.{on_ok_weaker}
 use Rattle.graphql_names.specs.Placed.{Place}
-use Rattle.rule_field_groups.specs.in_meaning.MeantTree.{MeantOperation, MeantDocument}
-use Rattle.rule_field_groups.specs.in_sets.in_ground.Broken.{brokens_of}
+use Rattle.rule_field_groups.specs.in_spec_document.MeantTree.{MeantOperation, MeantDocument}
+use Rattle.rule_field_groups.specs.in_sets.in_reach.Broken.{brokens_of}
 use Rattle.rule_field_groups.specs.in_sets.Read.{set_at}
 use Rattle.rule_field_groups.specs.Under.{Sets, sets_in}
 use Rattle.rule_field_groups.specs.Members.{meant_sets}
 use Rattle.rule_merging.specs.Counted.{AreListed}
-use Rattle.rule_field_groups.specs.Remembered.{Kept, account_of, kept_of}
+use Rattle.rule_field_groups.specs.MergeState.{Kept, account_of, kept_of}
 use Rattle.rule_merging.specs.Examined.{schema_of, document_of, sets_of, ExaminesPairs}
 use Rattle.rule_field_groups.specs.Pairs.{Looks, each_with}
 use Rattle.rule_merging.proofs.PairStep.{twos_looked}

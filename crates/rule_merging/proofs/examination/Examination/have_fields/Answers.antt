@@ -1,6 +1,6 @@
 use Rattle.std.proofs.Common.{◌≡◌, ◌∙◌, ◌<◌, ◌≤◌, [], ◌∷◌, true, false, length, get_or, map, take, sym, subst, arith}
 use Rattle.std.proofs.lemmas.List.{take_all, get_or_default}
-use Rattle.rule_number_lists.specs.NumberRows.{rows_of}
+use Rattle.list_interner.specs.NumberRows.{rows_of}
 use Rattle.rule_field_groups.proofs.in_definitions.Lists.{not_in_nil}
 use Rattle.rule_field_groups.proofs.in_document_definitions.Unplaced.{contains_map}
 use Rattle.rule_field_groups.specs.Members.{meant_sets}

@@ -1,5 +1,5 @@
 use Rattle.std.proofs.Common.{false, map, take}
-use Rattle.rule_number_lists.specs.NumberRows.{rows_of}
+use Rattle.list_interner.specs.NumberRows.{rows_of}
 use Rattle.rule_field_groups.specs.Members.{meant_sets}
 use Rattle.rule_merging.specs.Examined.{document_of, sets_of, HaveFields}
 use Rattle.rule_merging.proofs.examination.Examination.have_fields.Given as goal

@@ -1,7 +1,7 @@
 use Rattle.rule_field_groups.specs.in_definitions.Judged.{judged}
 use Rattle.rule_field_groups.specs.in_document_definitions.Selected.{operations}
 use Rattle.rule_field_groups.specs.in_sets.in_schema.SchemaOf.{schema_tree}
-use Rattle.rule_field_groups.specs.in_sets.in_ground.in_typed_operations.DocumentView.{document_meant}
+use Rattle.rule_field_groups.specs.in_sets.in_reach.in_typed_operations.DocumentView.{document_meant}
 use Rattle.rule_merging.proofs.merging.FieldsInSetCanMerge.new.Goals as goal
 
 pub invariant_of-result : goal.invariant_of-result

@@ -1,9 +1,9 @@
 use Rattle.std.proofs.Common.{map, ap, sym, true≢false}
 use Rattle.graphql_faults.specs.DetailsView.{diagnostics_of}
-use Rattle.rule_field_groups.specs.in_sets.in_ground.Broken.{broken_of, brokens_of}
+use Rattle.rule_field_groups.specs.in_sets.in_reach.Broken.{broken_of, brokens_of}
 use Rattle.rule_field_groups.specs.in_definitions.Judged.{judged}
 use Rattle.rule_field_groups.specs.in_sets.in_schema.SchemaOf.{schema_tree}
-use Rattle.rule_field_groups.specs.in_sets.in_ground.in_typed_operations.DocumentView.{document_meant, operation_meant}
+use Rattle.rule_field_groups.specs.in_sets.in_reach.in_typed_operations.DocumentView.{document_meant, operation_meant}
 use Rattle.rule_merging.specs.Merged.{conflicts_told}
 use Rattle.rule_merging.proofs.Verdicts.{conflicts_right, only_no_conflicts, stays_exactly, still_settled, settled_closed, settled_merges}
 use Rattle.rule_merging.proofs.Behind.{nothing_told, begins_same, refused_so}

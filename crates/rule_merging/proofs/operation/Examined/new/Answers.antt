@@ -1,10 +1,10 @@
 use Rattle.std.proofs.Common.{ap, sym, subst}
 use Rattle.rule_field_groups.specs.in_definitions.Judged.{judged}
 use Rattle.rule_field_groups.specs.in_sets.in_schema.SchemaOf.{schema_tree}
-use Rattle.rule_field_groups.specs.in_sets.in_ground.Fields.{meant_fragments}
+use Rattle.rule_field_groups.specs.in_sets.in_reach.Fields.{meant_fragments}
 use Rattle.rule_field_groups.specs.Paid.{Account}
 use Rattle.rule_merging.specs.Verdict.{IsCountedIn}
-use Rattle.rule_field_groups.specs.Remembered.{kept_of}
+use Rattle.rule_field_groups.specs.MergeState.{kept_of}
 use Rattle.rule_field_groups.specs.declared.pass.Pass.TheVariants.{Shapes, Selections}
 use Rattle.rule_merging.proofs.Examining.{nothing_settled}
 use Rattle.rule_merging.proofs.Counting.{none_counted}

@@ -1,5 +1,5 @@
 use Rattle.std.proofs.Common.{length, map, take, drop, sym, ap, subst, ◌∙◌}
-use Rattle.schema_built_in.specs.in_fold.Listed.{definitions_of}
+use Rattle.schema_built_in.specs.in_fold.NumberedDefinition.{definitions_of}
 use Rattle.schema_built_in.specs.in_fold.ListedView.{listed_view}
 use Rattle.schema_built_in.specs.Table.{built_in_definitions}
 use Rattle.schema_fold_index.specs.Index.{IsIndexOf}

@@ -2,7 +2,7 @@ use Rattle.std.proofs.Common.{[], ◌∷◌, ◌++◌, map, None, Some, sym, ap,
 use Rattle.std.proofs.lemmas.List.{map-append}
 use Rattle.schema_components.specs.Given.{extension_tree}
 use Rattle.schema_built_in.specs.in_definitions.DefinitionTree.{definition_tree}
-use Rattle.schema_built_in.specs.in_fold.Listed.{definitions_of}
+use Rattle.schema_built_in.specs.in_fold.NumberedDefinition.{definitions_of}
 use Rattle.schema_built_in.specs.in_fold.ListedView.{listed_view}
 use Rattle.schema_building.specs.TextsView.{texts_view}
 use Rattle.schema_building.proofs.Adding.{adds_unnumbered, adds_numbered}

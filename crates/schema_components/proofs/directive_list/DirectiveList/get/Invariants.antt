@@ -1,6 +1,6 @@
 use Rattle.std.proofs.Common.{◌≡◌, drop, map}
 use Rattle.std.specs.Prelude.{find}
-use Rattle.graphql_values.specs.DirectiveTree.{directive_tree}
+use Rattle.tree_operations.specs.DirectiveTree.{directive_tree}
 use Rattle.schema_components.specs.Given.{component_tree}
 use Rattle.schema_components.specs.Applied.{applied_tree, given_has_name}
 use Rattle.schema_components.proofs.directive_list.DirectiveList.get.Given as goal

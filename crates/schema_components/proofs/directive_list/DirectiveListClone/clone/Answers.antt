@@ -1,4 +1,4 @@
-use Rattle.graphql_values.specs.DirectiveTree.{directive_tree}
+use Rattle.tree_operations.specs.DirectiveTree.{directive_tree}
 use Rattle.schema_components.proofs.Copies.{components-copies}
 use Rattle.schema_components.proofs.directive_list.DirectiveListClone.clone.Goals as goal
 

@@ -1,6 +1,6 @@
 use Rattle.std.proofs.Common.{◌<◌, ◌≤◌, map, take, length, sym, subst, ◌∙◌, arith}
 use Rattle.std.proofs.lemmas.List.{length-map, length-take-le}
-use Rattle.schema_fold.specs.Listed.{definitions_of}
+use Rattle.schema_fold.specs.NumberedDefinition.{definitions_of}
 use Rattle.schema_fold.specs.ListedView.{listed_view}
 use Rattle.schema_fold_index.specs.Index.{IsIndexOf}
 use Rattle.schema_fold_index.proofs.Listing.{taken_more}

@@ -1,5 +1,5 @@
 use Rattle.std.proofs.Common.{map, take}
-use Rattle.schema_fold.specs.Listed.{definitions_of}
+use Rattle.schema_fold.specs.NumberedDefinition.{definitions_of}
 use Rattle.schema_fold.specs.ListedView.{listed_view}
 use Rattle.schema_fold_index.specs.Index.{IsIndexOf}
 use Rattle.schema_fold_index.proofs.index.Index.file_rest.Given as goal

@@ -1,7 +1,0 @@
-pub mod Parts
-pub mod BreachEquality
-pub mod Traces
-pub mod DataEquality
-pub mod Adding
-pub mod Kept
-pub mod SameDetails

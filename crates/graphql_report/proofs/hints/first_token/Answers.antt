@@ -1,5 +1,0 @@
-use Rattle.std.proofs.lemmas.Str.{IsCharBoundary-start}
-use Rattle.graphql_report.proofs.hints.first_token.Goals as goal
-
-pub next_token-requires : goal.next_token-requires
-next_token-requires c = IsCharBoundary-start c.args.text.now c.utf8.text

@@ -1,5 +1,0 @@
-use Rattle.read_again.proofs.UnplacedNests.{document_unplaced, type_unplaced, selections_unplaced}
-use Rattle.read_again.proofs.depth.depths_count_no_places.Goals as goal
-
-pub returns : goal.returns
-returns c = record { documents = document_unplaced; types = type_unplaced; selections = selections_unplaced }

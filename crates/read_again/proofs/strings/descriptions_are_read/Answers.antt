@@ -1,5 +1,0 @@
-use Rattle.read_again.proofs.Descriptions.{description_is_read, description_in_place}
-use Rattle.read_again.proofs.strings.descriptions_are_read.Goals as goal
-
-pub returns : goal.returns
-returns c = record { alone = description_is_read; in_place = description_in_place }

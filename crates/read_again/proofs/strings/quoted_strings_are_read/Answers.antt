@@ -1,5 +1,0 @@
-use Rattle.read_again.proofs.Quoted.{quoted_is_token, quoted_value}
-use Rattle.read_again.proofs.strings.quoted_strings_are_read.Goals as goal
-
-pub returns : goal.returns
-returns c = record { token = quoted_is_token; value = quoted_value }

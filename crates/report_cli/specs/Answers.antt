@@ -1,0 +1,54 @@
+-- The lines that answer a batch, and the records among lines of JSON.
+use Rattle.std.specs.Prelude.{ℕ, ◌==◌, List, ◌++◌, codes, decimal, Option, Some, None, if◌then◌else◌}
+use Rattle.json.specs.Print.{quoted}
+use Rattle.report_cli.specs.declared.asked.Why.{Why}
+use Rattle.report_cli.specs.declared.asked.Why.TheVariants.{NotJson, NotUtf8, NoId, WrongId, NoDocument, WrongDocument}
+use Rattle.report_cli.specs.declared.tally.Tally.{Tally}
+
+-- the beginning of an answer under this id, as JSON
+abbrev pub begun_text : List ℕ → List ℕ
+begun_text id = codes "{\"id\":" ++ id ++ codes ",\"accepted\":"
+
+-- the answer to a document that is accepted: the text that is written of it
+abbrev pub accepted_text : List ℕ → List ℕ → List ℕ
+accepted_text id written = begun_text id ++ codes "true,\"written\":" ++ quoted written ++ codes "}\n"
+
+-- the answer to a document that is refused: its faults, as JSON, and how many more are left out
+abbrev pub refused_text : List ℕ → List ℕ → ℕ → List ℕ
+refused_text id faults left_out = begun_text id ++ codes "false,\"faults\":[" ++ faults ++ codes "],\"left_out\":" ++ decimal left_out ++ codes "}\n"
+
+-- why a line asks for nothing that can be done
+abbrev pub why_words : Why → List ℕ
+why_words NotJson = codes "the line is not JSON"
+why_words NotUtf8 = codes "the line is not UTF-8"
+why_words NoId = codes "there is no `id`"
+why_words WrongId = codes "the `id` is neither a string nor a whole number"
+why_words NoDocument = codes "there is no `document`"
+why_words WrongDocument = codes "the `document` is not a string"
+
+abbrev pub id_or_null : Option (List ℕ) → List ℕ
+id_or_null None = codes "null"
+id_or_null (Some id) = id
+
+-- the answer to such a line: its number, and why
+abbrev pub wrong_text : Option (List ℕ) → ℕ → Why → List ℕ
+wrong_text id number why = begun_text (id_or_null id) ++ codes "false,\"line\":" ++ decimal number ++ codes ",\"error\":\"" ++ why_words why ++ codes "\"}\n"
+
+-- the beginning of a record of the document with this path
+abbrev pub named_text : List ℕ → List ℕ
+named_text path = codes "{\"document\":" ++ quoted path
+
+-- the record of a document that is read: it is accepted if it has no faults
+abbrev pub document_text : List ℕ → ℕ → List ℕ
+document_text path faults =
+    named_text path ++ codes ",\"accepted\":" ++ (if faults == 0 then codes "true" else codes "false") ++ codes ",\"faults\":" ++ decimal faults ++ codes "}\n"
+
+-- the record of a document that cannot be read
+abbrev pub unread_text : List ℕ → List ℕ → List ℕ
+unread_text path reason = named_text path ++ codes ",\"read\":false,\"error\":" ++ quoted reason ++ codes "}\n"
+
+-- the last record
+abbrev pub summary_text : Tally → List ℕ
+summary_text t =
+    codes "{\"summary\":{\"documents\":" ++ decimal t.documents ++ codes ",\"refused\":" ++ decimal t.refused ++ codes ",\"unread\":" ++ decimal t.unread
+    ++ codes ",\"faults\":" ++ decimal t.faults ++ codes "}}\n"

@@ -1,0 +1,92 @@
+//! The lines that answer a batch, and the records among lines of JSON.
+
+ghost use Rattle.std.specs.Prelude.{◌≡◌, IfOk, option_map, string_bytes};
+ghost use Rattle.report_cli.specs.Answers.{accepted_text, refused_text, wrong_text, document_text, unread_text, summary_text};
+
+use crate::asked::Why;
+use crate::tally::Tally;
+use report_forms::quoted;
+use std::alloc::{AllocError, Global};
+
+/// The answer to a document that is accepted: `{"id":ID,"accepted":true,"written":TEXT}`. The id is JSON.
+pub(crate) fn accepted_line(alloc: Global, id: &str, written: &str) -> Result<String, AllocError>
+    ensures { IfOk result (λ line. string_bytes line ≡ accepted_text id.now written.now) }
+{
+    let written = quoted(alloc, written)?;
+    format!(in alloc; "{{\"id\":{id},\"accepted\":true,\"written\":{written}}}\n")
+}
+
+/// The answer to a document that is refused: `{"id":ID,"accepted":false,"faults":[FAULTS],"left_out":N}`. The id is JSON, and so
+/// are the faults, with a comma between each two; N more are left out.
+pub(crate) fn refused_line(
+    alloc: Global,
+    id: &str,
+    faults: &str,
+    left_out: usize,
+) -> Result<String, AllocError>
+    ensures { IfOk result (λ line. string_bytes line ≡ refused_text id.now faults.now left_out) }
+{
+    format!(in alloc;
+        "{{\"id\":{id},\"accepted\":false,\"faults\":[{faults}],\"left_out\":{left_out}}}\n"
+    )
+}
+
+/// The answer to a line that asks for nothing that can be done: `{"id":ID,"accepted":false,"line":N,"error":WHY}`. The id is JSON, and
+/// null if there is none; the lines are counted from 1.
+pub(crate) fn wrong_line(
+    alloc: Global,
+    id: Option<&str>,
+    number: usize,
+    why: Why,
+) -> Result<String, AllocError>
+    ensures { IfOk result (λ line. string_bytes line ≡ wrong_text (option_map (λ text. text.now) id.entry) number why) }
+{
+    let id = id.unwrap_or("null");
+    let why = match why {
+        Why::NotJson => "the line is not JSON",
+        Why::NotUtf8 => "the line is not UTF-8",
+        Why::NoId => "there is no `id`",
+        Why::WrongId => "the `id` is neither a string nor a whole number",
+        Why::NoDocument => "there is no `document`",
+        Why::WrongDocument => "the `document` is not a string",
+    };
+    format!(in alloc; "{{\"id\":{id},\"accepted\":false,\"line\":{number},\"error\":\"{why}\"}}\n")
+}
+
+/// The record of a document that is read: `{"document":PATH,"accepted":true,"faults":0}`.
+pub(crate) fn document_record(
+    alloc: Global,
+    path: &str,
+    faults: usize,
+) -> Result<String, AllocError>
+    ensures { IfOk result (λ line. string_bytes line ≡ document_text path.now faults) }
+{
+    let path = quoted(alloc, path)?;
+    let accepted = faults == 0;
+    format!(in alloc; "{{\"document\":{path},\"accepted\":{accepted},\"faults\":{faults}}}\n")
+}
+
+/// The record of a document that cannot be read: `{"document":PATH,"read":false,"error":REASON}`.
+pub(crate) fn unread_record(alloc: Global, path: &str, reason: &str) -> Result<String, AllocError>
+    ensures { IfOk result (λ line. string_bytes line ≡ unread_text path.now reason.now) }
+{
+    let path = quoted(alloc, path)?;
+    let reason = quoted(alloc, reason)?;
+    format!(in alloc; "{{\"document\":{path},\"read\":false,\"error\":{reason}}}\n")
+}
+
+/// The last record: `{"summary":{"documents":N,"refused":N,"unread":N,"faults":N}}`.
+pub(crate) fn summary_record(alloc: Global, tally: Tally) -> Result<String, AllocError>
+    ensures { IfOk result (λ line. string_bytes line ≡ summary_text tally) }
+{
+    let Tally {
+        documents,
+        refused,
+        unread,
+        faults,
+        ..
+    } = tally;
+    format!(in alloc;
+        "{{\"summary\":{{\"documents\":{documents},\"refused\":{refused},\"unread\":{unread},\"faults\":{faults}}}}}\n"
+    )
+}

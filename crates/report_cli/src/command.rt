@@ -1,0 +1,91 @@
+//! The program's arguments.
+
+use clap::{Arg, ArgAction, Command};
+use std::alloc::{AllocError, Global};
+
+/// The words for forms.
+static FORMS: [&str; 4] = ["text", "short", "json", "github"];
+
+/// The program's command.
+pub(crate) fn program_command<'a>(alloc: Global) -> Result<Command<'a>, AllocError> {
+    // built first, so that no command is dropped here
+    let batch = batch_option(alloc)?;
+    let command = command_of_options(alloc)?;
+    command
+        .arg(batch)?
+        .arg(
+            Arg::new(alloc, "quiet")
+                .long("quiet")
+                .action(ArgAction::SetTrue)
+                .help("Tells neither counts nor notes on standard error"),
+        )?
+        .arg(
+            Arg::new(alloc, "DOCUMENT")
+                .action(ArgAction::Append)
+                .num_args(0..)
+                .help("The files of the documents; `-` is standard input"),
+        )
+}
+
+/// The command with the options that have a value.
+fn command_of_options<'a>(alloc: Global) -> Result<Command<'a>, AllocError> {
+    Command::new(alloc, "graphql-report")
+        .version("0.1.0")
+        .about(
+            "Checks GraphQL documents over a schema, and tells each fault at its line and column",
+        )
+        .arg(option(
+            alloc,
+            "format",
+            "FORM",
+            "How a fault is told [default: text]",
+        )
+        .value_parser(FORMS.as_slice()))?
+        .arg(nesting_option(alloc))?
+        .arg(option(
+            alloc,
+            "max-faults",
+            "N",
+            "How many faults are told of the schema, and of each document [default: all]",
+        )
+        .value_parser(clap::value_parser!(usize)))?
+        .arg(
+            option(
+                alloc,
+                "schema",
+                "FILE",
+                "A file of the schema; once for each, in order",
+            )
+            .action(ArgAction::Append)
+            .required(true),
+        )
+}
+
+/// An option with a value.
+fn option<'a>(alloc: Global, name: &'a str, value: &'a str, help: &'a str) -> Arg<'a> {
+    Arg::new(alloc, name)
+        .long(name)
+        .value_name(value)
+        .help(help)
+}
+
+/// The option for how many brackets may be open at once.
+fn nesting_option<'a>(alloc: Global) -> Arg<'a> {
+    option(
+        alloc,
+        "nesting",
+        "N",
+        "How many brackets may be open at once, from 1 to 1000 [default: 500]",
+    )
+    .value_parser(clap::value_parser!(usize).range(1..=1000))
+}
+
+/// The option for documents as lines of JSON.
+fn batch_option<'a>(alloc: Global) -> Result<Arg<'a>, AllocError> {
+    Arg::new(alloc, "batch")
+        .long("batch")
+        .action(ArgAction::SetTrue)
+        .help("Answers each line {\"id\": .., \"document\": ..} of standard input by a line")
+        .conflicts_with("DOCUMENT")?
+        .conflicts_with("format")
+}

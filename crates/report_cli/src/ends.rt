@@ -1,0 +1,71 @@
+//! How the program begins, and how it ends.
+
+use crate::answers::summary_record;
+use crate::files::{DEVICE, MEMORY, Stop, put};
+use crate::settings::{Format, Settings};
+use crate::tally::Tally;
+use clap::Error;
+use clap::error::ErrorKind;
+use std::io;
+
+/// The status if the words are wrong.
+const WRONG_WORDS: u8 = 2;
+
+/// The program's words, its name first, or the status if one is not UTF-8, which is told.
+pub fn read_words(rt: &HostRuntime) -> Result<Vec<String>, u8> {
+    match std::env::args(rt) {
+        Ok(args) => match args.collect(rt.alloc()) {
+            Ok(words) => Ok(words),
+            Err(_) => Err(MEMORY),
+        },
+        Err(error) if error.kind() == io::ErrorKind::OutOfMemory => Err(MEMORY),
+        Err(_) => {
+            let _ = eprintln!(rt; "error: a word is not UTF-8");
+            Err(WRONG_WORDS)
+        }
+    }
+}
+
+/// What the words ask for; if they ask for nothing that the program does, that is told, and the status is given.
+pub fn read_settings(rt: &HostRuntime, words: &[String]) -> Result<Settings, u8> {
+    match Settings::from_words(rt.alloc(), words) {
+        Ok(settings) => Ok(settings),
+        Err(error) => Err(told_of_words(rt, &error)),
+    }
+}
+
+/// Tells why there are no settings, and gives the status. The help goes to standard output, as it was asked for.
+fn told_of_words(rt: &HostRuntime, error: &Error) -> u8 {
+    if error.kind() == ErrorKind::OutOfMemory {
+        return Stop::Memory.tell(rt, Tally::new(false));
+    }
+    let printed = error.print(rt);
+    if error.use_stderr() {
+        return WRONG_WORDS;
+    }
+    match printed {
+        Ok(()) => 0,
+        Err(_) => DEVICE,
+    }
+}
+
+/// Tells how much was found, or why the program stopped before its end, and gives the status. If nobody reads the output any
+/// more, nothing is told, and the status is that of what was found so far.
+pub fn tell_end(rt: &HostRuntime, settings: &Settings, tally: Tally, done: Result<(), Stop>) -> u8 {
+    if let Err(stop) = done {
+        return stop.tell(rt, tally);
+    }
+    let (Ok(words), Ok(record)) = (tally.words(rt.alloc()), summary_record(rt.alloc(), tally))
+    else {
+        return Stop::Memory.tell(rt, tally);
+    };
+    if matches!(settings.format, Format::Json)
+        && let Err(stop) = put(rt, &record)
+    {
+        return stop.tell(rt, tally);
+    }
+    if !settings.quiet {
+        let _ = eprintln!(rt; "{words}");
+    }
+    tally.status()
+}

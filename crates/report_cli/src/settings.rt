@@ -1,0 +1,87 @@
+//! Settings, and how they are read.
+
+use crate::command::program_command;
+use clap::{ArgMatches, Error};
+use std::alloc::{AllocError, Global};
+
+/// How many brackets may be open at once, if the words do not say.
+const NESTING: usize = 500;
+
+/// The form in which a fault is told.
+#[derive(Clone, Copy)]
+pub enum Format {
+    Text,
+    Short,
+    Json,
+    Github,
+}
+
+/// What the program's words ask for.
+pub struct Settings {
+    /// How faults are told.
+    pub format: Format,
+    /// How many brackets may be open at once.
+    pub nesting: usize,
+    /// How many faults are told of the schema, and of each document.
+    pub max_faults: usize,
+    /// The paths of the schema's texts, in order.
+    pub schemas: Vec<String>,
+    /// The paths of the documents, in order.
+    pub documents: Vec<String>,
+    /// Whether documents come as lines of standard input.
+    pub batch: bool,
+    /// Whether counts and notes are left out.
+    pub quiet: bool,
+}
+
+impl Drop for Settings {
+    fn drop(self) {
+        let Settings {
+            format: _,
+            nesting: _,
+            max_faults: _,
+            schemas: _,
+            documents: _,
+            batch: _,
+            quiet: _,
+        } = self;
+    }
+}
+
+impl Settings {
+    /// Reads the words, the program's name first: `[--format text|short|json|github] [--nesting N] [--max-faults N]
+    /// --schema FILE [--schema FILE].. [--batch] [--quiet] [DOCUMENT..]`.
+    ///
+    /// An error has the text for the user: a fault of the words, what `--help` or `--version` shows, or out of memory.
+    pub fn from_words(alloc: Global, words: &[String]) -> Result<Settings, Error> {
+        let matches = program_command(alloc)?.try_get_matches_from(words)?;
+        Ok(settings_in(alloc, &matches)?)
+    }
+}
+
+/// The settings that the matches have.
+fn settings_in(alloc: Global, matches: &ArgMatches<'_>) -> Result<Settings, AllocError> {
+    Ok(Settings {
+        format: match matches.get_str("format") {
+            Some("short") => Format::Short,
+            Some("json") => Format::Json,
+            Some("github") => Format::Github,
+            _ => Format::Text,
+        },
+        nesting: matches.get_one::<usize>("nesting").unwrap_or(NESTING),
+        max_faults: matches.get_one::<usize>("max-faults").unwrap_or(usize::MAX),
+        schemas: paths(alloc, matches, "schema")?,
+        documents: paths(alloc, matches, "DOCUMENT")?,
+        batch: matches.get_flag("batch"),
+        quiet: matches.get_flag("quiet"),
+    })
+}
+
+/// The paths under this name.
+fn paths(alloc: Global, matches: &ArgMatches<'_>, name: &str) -> Result<Vec<String>, AllocError> {
+    let mut paths = Vec::new(alloc);
+    for path in matches.get_strs(name).unwrap_or(&[]) {
+        paths.push(String::from_str(alloc, path)?)?;
+    }
+    Ok(paths)
+}

@@ -1,0 +1,144 @@
+//! How much was found.
+
+ghost use Rattle.std.specs.Prelude.{◌≡◌, ◌++◌, ◌<◌, true, IfOk, OnOk, string_bytes};
+ghost use Rattle.report_cli.specs.Counts.{added, ending, counts_words, words_of};
+
+use std::alloc::{AllocError, Global};
+
+/// The status if all is accepted.
+const ACCEPTED: u8 = 0;
+/// The status if a document or the schema is refused.
+const REFUSED: u8 = 1;
+/// The status if a document cannot be read.
+const UNREAD: u8 = 3;
+
+/// How much was found.
+#[derive(Clone, Copy)]
+pub struct Tally {
+    /// How many documents were asked for.
+    pub documents: usize,
+    /// How many of them are refused.
+    pub refused: usize,
+    /// How many of them could not be read.
+    pub unread: usize,
+    /// How many faults are told of them, or of the schema.
+    pub faults: usize,
+    /// Whether the schema is refused, or is all that was asked for.
+    pub is_of_schema: bool,
+}
+
+impl Tally {
+    /// Nothing is found yet.
+    pub fn new(is_of_schema: bool) -> Tally
+        ensures { result ≡ record { documents = 0; refused = 0; unread = 0; faults = 0; is_of_schema = is_of_schema } }
+    {
+        Tally {
+            documents: 0,
+            refused: 0,
+            unread: 0,
+            faults: 0,
+            is_of_schema,
+        }
+    }
+
+    /// Adds a document that is accepted.
+    pub fn add_accepted(&mut self)
+        ensures { self.new ≡ record self.old { documents = added self.old.documents 1 } }
+    {
+        self.documents = self.documents.saturating_add(1);
+    }
+
+    /// Adds a document that is refused.
+    pub fn add_refused(&mut self)
+        ensures { self.new ≡ record self.old { documents = added self.old.documents 1; refused = added self.old.refused 1 } }
+    {
+        self.documents = self.documents.saturating_add(1);
+        self.refused = self.refused.saturating_add(1);
+    }
+
+    /// Adds so many faults that are told.
+    pub fn add_faults(&mut self, faults: usize)
+        ensures { self.new ≡ record self.old { faults = added self.old.faults faults } }
+    {
+        self.faults = self.faults.saturating_add(faults);
+    }
+
+    /// Adds a document that cannot be read.
+    pub fn add_unread(&mut self)
+        ensures { self.new ≡ record self.old { documents = added self.old.documents 1; unread = added self.old.unread 1 } }
+    {
+        self.documents = self.documents.saturating_add(1);
+        self.unread = self.unread.saturating_add(1);
+    }
+
+    /// Adds that the schema is refused, after which no document is judged.
+    pub fn add_schema(&mut self)
+        ensures { self.new ≡ record self.old { is_of_schema = true } }
+    {
+        self.is_of_schema = true;
+    }
+
+    /// The status of what was found: 3 if a document could not be read, else 1 if there is a fault, else 0.
+    pub fn status(self) -> u8
+        ensures unread { 0 < self.unread → result ≡ 3 }
+        ensures refused { self.unread ≡ 0 → 0 < self.faults → result ≡ 1 }
+        ensures accepted { self.unread ≡ 0 → self.faults ≡ 0 → result ≡ 0 }
+    {
+        if self.unread > 0 {
+            UNREAD
+        } else if self.faults > 0 {
+            REFUSED
+        } else {
+            ACCEPTED
+        }
+    }
+
+    /// How much was found, in words: `3 faults in 2 of 40 documents`, or `40 documents accepted`.
+    pub fn words(self, alloc: Global) -> Result<String, AllocError>
+        ensures { IfOk result (λ words. string_bytes words ≡ words_of self) }
+    {
+        let mut words = String::new(alloc);
+        self.push_counts(&mut words)?;
+        if self.unread > 0 {
+            write!(words, ", {} not read", self.unread)?;
+        }
+        Ok(words)
+    }
+
+    /// Adds how many faults there are, and what they are in; or what is accepted.
+    fn push_counts(self, out: &mut String) -> Result<(), AllocError>
+        ensures { OnOk result (string_bytes out.new ≡ string_bytes out.old ++ counts_words self) }
+    {
+        let Tally {
+            documents,
+            refused,
+            unread,
+            faults,
+            is_of_schema,
+        } = self;
+        let ending = plural(faults);
+        if is_of_schema && faults == 0 {
+            return out.push_str("schema accepted");
+        }
+        if is_of_schema {
+            return write!(out, "{faults} fault{ending} in the schema");
+        }
+        if refused == 0 {
+            let accepted = documents.saturating_sub(unread);
+            let ending = plural(accepted);
+            return write!(out, "{accepted} document{ending} accepted");
+        }
+        let ending_of_documents = plural(documents);
+        write!(
+            out,
+            "{faults} fault{ending} in {refused} of {documents} document{ending_of_documents}"
+        )
+    }
+}
+
+/// The ending of a word after the number: `s`, but nothing after 1.
+fn plural(number: usize) -> &'static str
+    ensures { result.now ≡ ending number }
+{
+    if number == 1 { "" } else { "s" }
+}

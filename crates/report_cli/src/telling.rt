@@ -1,0 +1,136 @@
+//! Telling faults in the form that is asked for.
+
+use crate::answers::document_record;
+use crate::files::{Stop, put};
+use crate::folding::{Printed, folded};
+use crate::settings::{Format, Settings};
+use crate::tally::Tally;
+use report_forms::{Entry, Lines, Source};
+use std::alloc::{AllocError, Global};
+
+/// How many faults of the rules a check tells at most.
+const MOST_TOLD: usize = 1_000;
+
+/// What is asked for, and the texts of the schema.
+#[derive(Clone, Copy)]
+pub struct Telling<'a> {
+    pub settings: &'a Settings,
+    pub schemas: &'a [Source<'a>],
+}
+
+impl Telling<'_> {
+    /// Counts the faults that are told of a document, or of the schema if there is no path, and prints as many as are asked
+    /// for. Lines of JSON are for programs, which fold them as they like: there each fault has its line, and after them the
+    /// document has one, also if it is accepted.
+    pub fn tell(
+        &self,
+        rt: &HostRuntime,
+        document: Option<&str>,
+        entries: &[Entry],
+        tally: &mut Tally,
+    ) -> Result<(), Stop> {
+        tell_cut(rt, self.settings, entries.len());
+        let most = self.settings.max_faults;
+        if matches!(self.settings.format, Format::Json) {
+            tally.add_faults(entries.len());
+            for entry in &entries[..entries.len().min(most)] {
+                print_formed(rt, Format::Json, entry)?;
+            }
+            let Some(path) = document else {
+                return Ok(());
+            };
+            let record = document_record(rt.alloc(), path, entries.len())?;
+            return put(rt, &record);
+        }
+        let printed = folded(rt.alloc(), entries)?;
+        tally.add_faults(faults_in(&printed));
+        let (told, rest) = printed.split_at(printed.len().min(most));
+        self.print_folded(rt, entries, told)?;
+        print_more(rt, faults_in(rest), None)
+    }
+
+    /// Prints each fault in its form, and how many it stands for.
+    fn print_folded(
+        &self,
+        rt: &HostRuntime,
+        entries: &[Entry],
+        printed: &[Printed],
+    ) -> Result<(), Stop> {
+        for one in printed {
+            if let Some(entry) = entries.get(one.index) {
+                print_formed(rt, self.settings.format, entry)?;
+                print_more(rt, one.more, Some(entry.rule))?;
+            }
+        }
+        Ok(())
+    }
+}
+
+/// Says on standard error that there may be more faults, if there are as many as a check tells of the rules. Stages that tell more
+/// tell all.
+pub(crate) fn tell_cut(rt: &HostRuntime, settings: &Settings, told: usize) {
+    if told == MOST_TOLD && !settings.quiet {
+        let _ = eprintln!(rt;
+            "note: a check tells at most 1,000 faults of the rules: there may be more"
+        );
+    }
+}
+
+/// Says how many faults are left out, if any are: of the rule and the message that were told last, or of all if there is no
+/// rule.
+fn print_more(rt: &HostRuntime, more: usize, rule: Option<&str>) -> Result<(), Stop> {
+    if more == 0 {
+        return Ok(());
+    }
+    let line = match rule {
+        Some(rule) => format!(in rt.alloc(); "and {more} more with this message of {rule}\n"),
+        None => format!(in rt.alloc(); "and {more} more beyond --max-faults\n"),
+    };
+    put(rt, &line?)
+}
+
+/// How many faults these are, with those that each stands for.
+fn faults_in(printed: &[Printed]) -> usize {
+    let mut faults = 0usize;
+    for one in printed {
+        faults = faults.saturating_add(1).saturating_add(one.more);
+    }
+    faults
+}
+
+/// Prints a fault in the form.
+fn print_formed(rt: &HostRuntime, format: Format, entry: &Entry) -> Result<(), Stop> {
+    let alloc = rt.alloc();
+    let formed = match format {
+        Format::Text => entry.text(alloc),
+        Format::Short => entry.short(alloc),
+        Format::Json => entry.json(alloc),
+        Format::Github => entry.github(alloc),
+    };
+    put(rt, &formed?)
+}
+
+/// The lines of each text.
+pub fn lines_of(alloc: Global, texts: &[String]) -> Result<Vec<Lines<'_>>, AllocError> {
+    let mut lines = Vec::new(alloc);
+    for text in texts {
+        lines.push(Lines::new(alloc, text)?)?;
+    }
+    Ok(lines)
+}
+
+/// The texts under their paths.
+pub fn sources_of<'a>(
+    alloc: Global,
+    paths: &'a [String],
+    lines: &'a [Lines<'a>],
+) -> Result<Vec<Source<'a>>, AllocError> {
+    let mut sources = Vec::new(alloc);
+    for index in 0..paths.len().min(lines.len()) {
+        sources.push(Source {
+            path: &paths[index],
+            lines: &lines[index],
+        })?;
+    }
+    Ok(sources)
+}

@@ -1,0 +1,16 @@
+use Rattle.std.proofs.Common.{◌∙◌}
+use Rattle.graphql_names.specs.Placed.{node_tree}
+use Rattle.tree_directives.specs.DirectiveTree.{argument_tree}
+use Rattle.rule_values.specs.in_rule_definitions.Names.{argument_name}
+use Rattle.rule_values.proofs.in_inputs.Noted.{taken, number_absent, number_there}
+use Rattle.rule_arguments.proofs.given.find_numbered.Goals as goal
+
+pub returns-in-None : goal.returns-in-None
+returns-in-None c =
+    number_absent argument_name (node_tree argument_tree) c.args.given.now c.args.name.now.text c.get.result c.in-None.is (c.get.ensures.value ∙ c.requires c.args.name.now)
+
+pub returns-in-Some : goal.returns-in-Some
+returns-in-Some c =
+    let xs = c.args.given.now in
+    number_there argument_name (node_tree argument_tree) xs c.args.name.now.text c.get.result c.in-Some.index c.in-Some.is (c.get.ensures.value ∙ c.requires c.args.name.now)
+    c.get-in-Some.result (taken argument_name (node_tree argument_tree) xs c.in-Some.index.now c.get-in-Some.result c.get-in-Some.ensures.lookup.0 c.get-in-Some.ensures.lookup.1)

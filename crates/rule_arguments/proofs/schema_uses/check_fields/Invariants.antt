@@ -1,0 +1,14 @@
+use Rattle.std.proofs.Common.{map}
+use Rattle.graphql_names.specs.NameValue.{NameValue}
+use Rattle.schema_components.specs.declared.component.Component.{Component}
+use Rattle.tree_type_members.specs.declared.field_definition.FieldDefinition.{FieldDefinition}
+use Rattle.rule_values.specs.in_schema.in_schema_types.TypeView.{name_text}
+use Rattle.rule_values.specs.in_schema.SchemaOf.{schema_tree}
+use Rattle.rule_values.specs.in_fault_data.Adds.{Adds}
+use Rattle.rule_arguments.specs.SchemaUses.{FieldsUses}
+use Rattle.schema_components.specs.Given.{component_tree}
+use Rattle.tree_type_members.specs.TypeSystemTree.{field_definition_tree}
+use Rattle.rule_arguments.proofs.schema_uses.check_fields.Given as goal
+
+abbrev pub invariant-loop-field : goal.invariant-loop-field
+invariant-loop-field l = Adds l.fn.faults l.faults (FieldsUses (schema_tree l.schema) (map (λ (e : NameValue × Component FieldDefinition). (name_text e.0, component_tree field_definition_tree e.1)) (map (λ e. (e.0.now, e.1.now)) l.yielded)))

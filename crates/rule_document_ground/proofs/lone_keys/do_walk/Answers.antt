@@ -1,4 +1,0 @@
-use Rattle.rule_document_ground.proofs.lone_keys.do_walk.Goals as goal
-
-pub returns : goal.returns
-returns c = c.pass_levels.ensures

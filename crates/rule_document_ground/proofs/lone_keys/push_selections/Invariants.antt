@@ -1,7 +1,0 @@
-use Rattle.std.proofs.Common.{◌≡◌, ◌++◌, take}
-use Rattle.document_walks.specs.WalkView.{members_on}
-use Rattle.rule_document_ground.specs.Passed.{members_left}
-use Rattle.rule_document_ground.proofs.lone_keys.push_selections.Given as goal
-
-abbrev pub invariant-loop-selection : goal.invariant-loop-selection
-invariant-loop-selection l = members_left l.left.items ≡ members_left l.fn.left.items ++ members_on l.set.ty (take l.selection-index l.selection-items)

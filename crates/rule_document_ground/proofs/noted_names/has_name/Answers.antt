@@ -1,6 +1,0 @@
-use Rattle.std.proofs.Common.{◌∙◌}
-use Rattle.rule_document_ground.proofs.NotedNames.{any_text}
-use Rattle.rule_document_ground.proofs.noted_names.has_name.Goals as goal
-
-pub returns : goal.returns
-returns c = c.contains.ensures ∙ any_text c.args.name.now.text c.args.names.now.keys

@@ -1,7 +1,0 @@
-use Rattle.std.proofs.Common.{◌∙◌, ap}
-use Rattle.rule_number_lists.specs.NumberPairs.{pairs_from}
-use Rattle.rule_number_lists.proofs.Rows.{rows_push}
-use Rattle.rule_number_lists.proofs.pairs.NumberPairs.reach.Goals as goal
-
-pub loop-alloc-preserved : goal.loop-alloc-preserved
-loop-alloc-preserved c = ap (pairs_from 0) c.in_ok-push.ensures.items ∙ rows_push 0 c.loop-alloc.self.rows.items c.new.result c.new.ensures ∙ c.loop-alloc.invariant

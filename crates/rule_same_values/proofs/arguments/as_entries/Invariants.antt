@@ -1,6 +1,0 @@
-use Rattle.std.proofs.Common.{◌≡◌, map, take}
-use Rattle.rule_same_values.specs.Tests.{entry_pair, argument_pair}
-use Rattle.rule_same_values.proofs.arguments.as_entries.Given as goal
-
-abbrev pub invariant-loop-argument : goal.invariant-loop-argument
-invariant-loop-argument l = map entry_pair l.entries.items ≡ map argument_pair (take l.argument-index l.arguments)

@@ -1,8 +1,0 @@
-use Rattle.std.proofs.Common.{◌≡◌, drop}
-use Rattle.std.specs.Option.{option_or}
-use Rattle.graphql_names.specs.NameValue.{NameValue}
-use Rattle.rule_same_values.specs.Tests.{plain_entries, first_under, value_under}
-use Rattle.rule_same_values.proofs.values.first_values.Given as goal
-
-abbrev pub invariant-loop-entry : goal.invariant-loop-entry
-invariant-loop-entry l = (n : NameValue) → first_under n.text (plain_entries l.entries) ≡ option_or (value_under n l.firsts) (first_under n.text (plain_entries (drop l.entry-index l.entries)))

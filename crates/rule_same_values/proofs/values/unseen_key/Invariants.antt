@@ -1,6 +1,0 @@
-use Rattle.std.proofs.Common.{◌≡◌, drop}
-use Rattle.rule_same_values.specs.Tests.{plain_entries, noted_names, unseen_key}
-use Rattle.rule_same_values.proofs.values.unseen_key.Given as goal
-
-abbrev pub invariant-loop-entry : goal.invariant-loop-entry
-invariant-loop-entry l = unseen_key (noted_names l.names) (plain_entries l.entries) ≡ unseen_key (noted_names l.names) (plain_entries (drop l.entry-index l.entries))

@@ -1,9 +1,0 @@
-use Rattle.std.proofs.Common.{take}
-use Rattle.rule_values.specs.in_fault_data.Adds.{Adds}
-use Rattle.rule_values.specs.Wanting.{variables_of}
-use Rattle.rule_uses.specs.Trees.{arguments_of}
-use Rattle.rule_uses.specs.Steps.{VariablesGivenBreak}
-use Rattle.rule_uses.proofs.given.check_variables_given.Given as goal
-
-abbrev pub invariant-loop-argument : goal.invariant-loop-argument
-invariant-loop-argument l = Adds l.fn.faults l.faults (VariablesGivenBreak (variables_of l.variables) (arguments_of (take l.argument-index l.given)))

@@ -1,9 +1,0 @@
-use Rattle.std.proofs.Common.{◌≡◌, map, take}
-use Rattle.schema_fold_index.specs.in_fold.Listed.{definitions_of}
-use Rattle.schema_fold_index.specs.in_fold.ListedView.{listed_view}
-use Rattle.schema_fold_types.specs.Seen.{seen_of}
-use Rattle.schema_fold_types.specs.SeenView.{seen_view}
-use Rattle.schema_fold_types.proofs.seen.Seen.of.Given as goal
-
-abbrev pub invariant-loop-listed : goal.invariant-loop-listed
-invariant-loop-listed l = seen_view l.seen ≡ seen_of (definitions_of (map listed_view (take l.listed-index l.list)))
