@@ -1,5 +1,5 @@
 //! A program of rows: it judges the rows of the files that its words name, tells each answer that is not as its row wants
-//! it, and then counts files, rows, answers and differences.
+//! it, and then how many those are; on standard error it counts files, rows and answers.
 
 use crate::calls::{Calls, call_of};
 use crate::case::{Case, Tally, tell_place};
@@ -15,7 +15,8 @@ use std::process::ExitCode;
 pub fn judge_files<C: Calls>(rt: &HostRuntime, calls: &C) -> ExitCode {
     let mut tally = Tally::new(rt.alloc());
     judge_words(rt, calls, &mut tally);
-    tell_counts(&mut tally);
+    tell_differences(&mut tally);
+    print_counts(rt, &tally);
     let told = tally.told.as_str();
     if print!(rt; "{told}").is_err() {
         return ExitCode::from(2);
@@ -139,14 +140,19 @@ fn judge_case<C: Calls>(
     Ok(())
 }
 
-/// Tells the counts, if all rows were judged.
-fn tell_counts(tally: &mut Tally) {
+/// Tells how many answers are not as their rows want them, if all rows were judged.
+fn tell_differences(tally: &mut Tally) {
     if !tally.is_stopped {
-        tally.told.show_between("", &tally.files, " files, ");
-        tally.told.show_between("", &tally.rows, " rows, ");
-        tally.told.show_between("", &tally.answers, " answers, ");
         tally
             .told
             .show_between("", &tally.differences, " differences\n");
     }
+}
+
+/// Prints on standard error how much was judged, so that a row that is added changes nothing on standard output.
+fn print_counts(rt: &HostRuntime, tally: &Tally) {
+    let files = tally.files;
+    let rows = tally.rows;
+    let answers = tally.answers;
+    let _ = eprintln!(rt; "{files} files, {rows} rows, {answers} answers");
 }
