@@ -18,6 +18,7 @@ import json
 import os
 import re
 import resource
+import shutil
 import subprocess
 import sys
 import tempfile
@@ -313,8 +314,9 @@ def cost(program, folder, texts):
         with open(os.path.join(folder, name), "w", encoding="utf-8") as file:
             file.write(text)
     words = [program, "--indent", "two", "document", "schema"]
-    counter = ["valgrind", "--tool=callgrind", "--callgrind-out-file=/dev/null"]
-    counted = subprocess.run([*counter, *words], cwd=folder, capture_output=True, text=True, check=False)
+    counter = [shutil.which("valgrind"), "--tool=callgrind", "--callgrind-out-file=/dev/null"]
+    # without an environment, which the loader reads
+    counted = subprocess.run([*counter, *words], cwd=folder, env={}, capture_output=True, text=True, check=False)
     found = re.search(r"Collected : (\d+)", counted.stderr)
     if not found:
         sys.exit(f"speed.py: callgrind counted nothing: {counted.stderr[-300:]}")
