@@ -7,7 +7,7 @@ use crate::text_names::{NameKind, TextName, push_names};
 use fault_data::DiagnosticData;
 use fault_document_errors::BuildError;
 use graphql_faults::Details;
-use graphql_names::{FileId, SourceSpan};
+use graphql_names::{FileId, Name, SourceSpan};
 use graphql_schema::Schema;
 use report_forms::{Closest, Source, source_at};
 use schema_fold::BuildError as FoldingError;
@@ -203,29 +203,32 @@ pub(crate) fn hint_of(
     }
 }
 
-/// The closest of the variables or the fragments of a document, or of the types, the directives or the members of a type.
-fn near_name(
-    alloc: Global,
-    names: &[TextName<'_>],
-    left: &mut usize,
-    is_of_document: bool,
-    details: &Details,
-) -> Result<Option<String>, AllocError> {
-    let (kind, of, given) = match details {
-        Details::Data(DiagnosticData::UndefinedVariable { name }) => (NameKind::Variable, "", name),
-        Details::Data(DiagnosticData::UndefinedFragment { name }) => (NameKind::Fragment, "", name),
-        _ if is_of_document => return Ok(None),
+/// Of which kind, and of which type, the names are among which the one that a fault tells may be meant, and that one: a variable or a
+/// fragment of a document; of a schema a type, a directive or a member of a type.
+fn sought(details: &Details, is_of_document: bool) -> Option<(NameKind, &str, &Name)> {
+    match details {
+        Details::Data(DiagnosticData::UndefinedVariable { name }) => Some((
+            NameKind::Variable,
+            "",
+            name,
+        )),
+        Details::Data(DiagnosticData::UndefinedFragment { name }) => Some((
+            NameKind::Fragment,
+            "",
+            name,
+        )),
+        _ if is_of_document => None,
         Details::Data(DiagnosticData::UndefinedDefinition { name })
-        | Details::SchemaBuild(FoldingError::OrphanTypeExtension { name }) => (
+        | Details::SchemaBuild(FoldingError::OrphanTypeExtension { name }) => Some((
             NameKind::Type,
             "",
             name,
-        ),
-        Details::Data(DiagnosticData::UndefinedDirective { name }) => (
+        )),
+        Details::Data(DiagnosticData::UndefinedDirective { name }) => Some((
             NameKind::Directive,
             "",
             name,
-        ),
+        )),
         Details::Data(
             DiagnosticData::UndefinedEnumValue {
                 value: name,
@@ -237,8 +240,21 @@ fn near_name(
                 definition,
                 ..
             },
-        ) => (NameKind::Member, definition.as_str(), name),
-        _ => return Ok(None),
+        ) => Some((NameKind::Member, definition.as_str(), name)),
+        _ => None,
+    }
+}
+
+/// The closest of the names that may be meant.
+fn near_name(
+    alloc: Global,
+    names: &[TextName<'_>],
+    left: &mut usize,
+    is_of_document: bool,
+    details: &Details,
+) -> Result<Option<String>, AllocError> {
+    let Some((kind, of, given)) = sought(details, is_of_document) else {
+        return Ok(None);
     };
     let given = given.as_str();
     let mut closest = Closest::new(alloc, given);

@@ -29,23 +29,14 @@ pub(crate) fn schema_hint(
                 type_name,
                 field_name,
             },
-        ) => match fragment_hint(alloc, left, schema, type_name, field_name)? {
-            Some(words) => Ok(Some(words)),
-            None => member_hint(alloc, left, schema, type_name, field_name.as_str()),
-        },
-        Details::Data(DiagnosticData::UnsupportedValueType { value, ty, .. }) => match (
+        ) => field_hint(alloc, left, schema, type_name, field_name),
+        Details::Data(DiagnosticData::UnsupportedValueType { value, ty, .. }) => enum_value_hint(
+            alloc,
+            left,
+            schema,
             value.content(),
             ty.content().inner_named_type(),
-        ) {
-            (Value::String(text), name) if schema.get_enum(name).is_some() => member_hint(
-                alloc,
-                left,
-                schema,
-                name,
-                text.as_str(),
-            ),
-            _ => Ok(None),
-        },
+        ),
         Details::Data(
             DiagnosticData::UndefinedEnumValue {
                 value,
@@ -71,6 +62,40 @@ pub(crate) fn schema_hint(
             &schema.directive_definitions,
             name.as_str(),
             "@",
+        ),
+        _ => Ok(None),
+    }
+}
+
+/// A fragment that has the field, or a field of the type.
+fn field_hint(
+    alloc: Global,
+    left: &mut usize,
+    schema: &Schema,
+    type_name: &Name,
+    field: &Name,
+) -> Result<Option<String>, AllocError> {
+    match fragment_hint(alloc, left, schema, type_name, field)? {
+        Some(words) => Ok(Some(words)),
+        None => member_hint(alloc, left, schema, type_name, field.as_str()),
+    }
+}
+
+/// The value of the enum that a string names, or is near to.
+fn enum_value_hint(
+    alloc: Global,
+    left: &mut usize,
+    schema: &Schema,
+    value: &Value,
+    type_name: &Name,
+) -> Result<Option<String>, AllocError> {
+    match value {
+        Value::String(text) if schema.get_enum(type_name).is_some() => member_hint(
+            alloc,
+            left,
+            schema,
+            type_name,
+            text.as_str(),
         ),
         _ => Ok(None),
     }

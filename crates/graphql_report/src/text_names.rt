@@ -31,6 +31,35 @@ pub(crate) struct TextName<'a> {
     pub(crate) start: usize,
 }
 
+/// How many brackets are open, and whether the outermost of them is a brace.
+#[derive(Clone, Copy)]
+struct Depth {
+    open: usize,
+    is_in_braces: bool,
+}
+
+impl Depth {
+    /// What it is after a token, if that is a bracket.
+    fn after(self, token: &str) -> Option<Depth> {
+        let Depth { open, is_in_braces } = self;
+        match token {
+            "{" | "(" | "[" => Some(Depth {
+                open: open.saturating_add(1),
+                is_in_braces: if open == 0 {
+                    token == "{"
+                } else {
+                    is_in_braces
+                },
+            }),
+            "}" | ")" | "]" => Some(Depth {
+                open: open.saturating_sub(1),
+                is_in_braces,
+            }),
+            _ => None,
+        }
+    }
+}
+
 /// Adds the names of a text, in order, up to where no token is read.
 pub(crate) fn push_names<'a>(
     names: &mut Vec<TextName<'a>>,
@@ -38,30 +67,19 @@ pub(crate) fn push_names<'a>(
     text: &'a str,
 ) -> Result<(), AllocError> {
     let (mut earlier, mut before, mut owner, mut rest) = ("", "", "", text);
-    let (mut depth, mut is_in_braces) = (0usize, false);
+    let mut depth = Depth {
+        open: 0,
+        is_in_braces: false,
+    };
     for _ in 0..text.len() {
         let Some((token, behind)) = first_token(rest) else {
             break;
         };
         let name = token.text;
-        if matches!(name, "{" | "(" | "[") {
-            is_in_braces = if depth == 0 {
-                name == "{"
-            } else {
-                is_in_braces
-            };
-            depth = depth.saturating_add(1);
-        } else if matches!(name, "}" | ")" | "]") {
-            depth = depth.saturating_sub(1);
+        if let Some(next) = depth.after(name) {
+            depth = next;
         } else if matches!(token.kind, TokenKind::Name)
-            && let Some((kind, of, next)) = named(
-                earlier,
-                before,
-                owner,
-                name,
-                depth,
-                is_in_braces,
-            )
+            && let Some((kind, of, next)) = named(earlier, before, owner, name, depth)
         {
             names.push(TextName {
                 kind,
@@ -88,10 +106,9 @@ fn named<'a>(
     before: &'a str,
     owner: &'a str,
     name: &'a str,
-    depth: usize,
-    is_in_braces: bool,
+    depth: Depth,
 ) -> Option<(NameKind, &'a str, &'a str)> {
-    let kind = match (depth, before) {
+    let kind = match (depth.open, before) {
         (_, "$") => NameKind::Variable,
         (0, "fragment") => NameKind::Fragment,
         (0, "query" | "mutation" | "subscription") => NameKind::Operation,
@@ -103,7 +120,7 @@ fn named<'a>(
         (0, "=" | "|" | "&" | "implements") => return Some((NameKind::Member, owner, owner)),
         (0, _) if name == "schema" => NameKind::Schema,
         (1, ":" | "@" | "=") => return None,
-        (1, _) if is_in_braces => return Some((NameKind::Member, owner, owner)),
+        (1, _) if depth.is_in_braces => return Some((NameKind::Member, owner, owner)),
         _ => return None,
     };
     let next = match kind {
