@@ -224,13 +224,15 @@ static graphql_checked_status ask(held *it, const question *q, graphql_checked_a
 
 /* ---- opening */
 
-/* The options with what stands for nothing, if all that is told is known: also where the caller's struct is shorter or longer. */
+/* The options with what stands for nothing, if all that is told is known: also where the caller's struct is shorter or longer. A size
+ * of which no struct can be is not read any further. */
 static bool options_of(const graphql_checked_options *given, graphql_checked_options *options) {
     static const graphql_checked_options none = GRAPHQL_CHECKED_DEFAULTS;
+    enum { LONGEST = 1024 };
     *options = none;
     if (given) {
         size_t size = given->size;
-        if (size < sizeof size) return false;
+        if (size < sizeof size || size % sizeof size || size > LONGEST) return false;
         for (size_t i = sizeof none; i < size; i++)
             if (((const char *)given)[i]) return false;
         memcpy(options, given, size < sizeof none ? size : sizeof none);

@@ -69,7 +69,7 @@ typedef enum {
     GRAPHQL_CHECKED_CLOSED = 9,   /* the handle has no schema */
     GRAPHQL_CHECKED_OPEN = 10,    /* the handle has a schema already */
     GRAPHQL_CHECKED_BUSY = 11,    /* the handle is in a call */
-    GRAPHQL_CHECKED_OPTIONS = 12  /* the options have a form, or a field, that this library does not know */
+    GRAPHQL_CHECKED_OPTIONS = 12  /* the options have a size, a form or a field that this library does not know */
 } graphql_checked_status;
 
 /* The status in words. Lasts as long as the library is loaded. */

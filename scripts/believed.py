@@ -2,14 +2,14 @@
 """Which definitions the promises rest on: scripts/believed.py [--names] [--why FILE] [--of NAME] [--others] [--write] [--check]
 
 Prints the files of `specs/` that the clauses of the users' crates reach, in reading order: by the areas of docs/MAP.md, in each a
-crate behind those that it stands on, and in a crate as its `Lib.antt` has them.
+crate after those that it depends on, and in a crate as its `Lib.antt` has them.
 
 A clause is `requires`, `ensures` or `follows` of a public function, or what an `impl` of a trait says by a `ghost` word
 (`output`, `is_clone`, ..). Public are the items that `lib.rt` of one of the users' crates gives, where it takes them from an
 inner crate those of that crate, and the functions that C calls. A clause reaches the definitions that it names, and a definition those that it names.
 
-An invariant of a public type speaks of its private fields: what follows from it is had by a clause of some call. So what
-invariants alone reach is printed behind, and counts for nothing.
+An invariant of a public type is about its private fields: what follows from it is had by a clause of some call. So what
+invariants alone reach is printed last, and counts for nothing.
 
 --names prints the reached definitions of each file too. --why FILE (a path or a name such as `NumberedDefinition`) prints by which
 definitions a clause leads to it. --of NAME prints how much a definition rests on: the definitions that it reaches, their files,
@@ -78,7 +78,7 @@ class Exports:
 
 
     def take(self, crate, path, found, front):
-        """Adds what a source of the crate gives again."""
+        """Adds what a source of the crate re-exports."""
         for is_public, way, name, under in sources.uses(self.text(path)):
             steps = [step for step in way.split("::") if step != "crate"]
             if not is_public or not steps:
@@ -207,7 +207,7 @@ def clauses_of(library, path, crate, types, names, free, traits):
 
 
 def is_public_block(block, crate, types, names, traits):
-    """Whether what stands in a block is public: of a type or a trait that is, and of no trait of the repository that is not."""
+    """Whether what a block has is public: of a type or a trait that is, and of no trait of the repository that is not."""
     if block.is_trait:
         return (crate, block.trait) in types
     if block.trait in traits and block.trait not in names:
@@ -249,19 +249,19 @@ def areas():
 
 
 def crates_in_order():
-    """The crates by area, in each behind those that they stand on."""
-    stands_on, order = sources.crates(), []
+    """The crates by area, in each after those that they depend on."""
+    needs, order = sources.crates(), []
 
     def visit(crate, among):
         if crate in among and crate not in order:
-            for below in stands_on[crate]:
+            for below in needs[crate]:
                 visit(below, among)
             order.append(crate)
 
     for _, among in areas():
-        for crate in stands_on:
+        for crate in needs:
             visit(crate, among)
-    return order + [crate for crate in stands_on if crate not in order]
+    return order + [crate for crate in needs if crate not in order]
 
 
 def in_order(library, files):

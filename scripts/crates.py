@@ -1,12 +1,12 @@
 #!/usr/bin/env python3
-"""The plan of the crates, as crates/README.md: scripts/crates.py [--write] [--check]
+"""The plan of the crates, as crates/README.md: scripts/crates.py [--write] [--check] [--below CRATE]
 
 Its sections are those of crates.txt, each under the comment that begins it. In a section a crate comes after those of the section
 that it needs, directly or through others. Each has a line: its name, the first sentence of the head of its `src/lib.rt` or
 `src/main.rt`, and the files that this head says to begin with.
 
 --write writes the page. --check prints a line for each crate without a section or a head, and one where the page is not what this
-makes; the status is then 1.
+makes; the status is then 1. --below prints the lines of crates.txt of a crate and of all below it, the lowest first.
 """
 import os
 import re
@@ -26,40 +26,11 @@ A crate's prefix mostly names its area; `graphql_` marks what users import, the 
 """
 
 
-class Section:
-    """A section of crates.txt: its area, what its comment says of it, and its crates in their order there."""
-
-    def __init__(self, area, words):
-        self.area, self.words, self.crates = area, words, []
-
-
-def sections():
-    """The sections of crates.txt, in order."""
-    found = []
-    for line in sources.read(LIST).splitlines():
-        comment = re.match(r"# (\w+): (.+)$", line)
-        name = re.match(r"(\w+)[^#:]*:", line)
-        if comment:
-            found.append(Section(*comment.groups()))
-        elif name and found:
-            found[-1].crates.append(name.group(1))
-    return found
-
-
-def below(crate, needs, found):
-    """Adds to a set all that a crate needs, directly or through others."""
-    for low in needs.get(crate, []):
-        if low not in found:
-            found.add(low)
-            below(low, needs, found)
-    return found
-
-
 def in_order(crates, needs):
     """The crates of a section, each after those that it needs, and else in the order of crates.txt."""
     left, done = list(crates), []
     while left:
-        free = [crate for crate in left if not below(crate, needs, set()) & set(left)]
+        free = [crate for crate in left if set(sources.all_below(crate, needs)) & set(left) <= {crate}]
         done.append((free or left)[0])
         left.remove(done[-1])
     return done
@@ -114,21 +85,26 @@ def line_of(crate):
 
 def made():
     """The page, and a line for each crate that it cannot have as it must."""
-    needs, lines, wrong, listed = sources.crates(), TOP_OF_PAGE.strip().split("\n"), [], set()
-    for section in sections():
-        lines += ["", f"## `{section.area}_`: {section.words}", ""]
-        listed.update(section.crates)
-        for crate in in_order(section.crates, needs):
+    needs, lines, wrong, sections = sources.crates(), TOP_OF_PAGE.strip().split("\n"), [], {}
+    for crate in sources.listed_crates():
+        sections.setdefault((crate.area, crate.words), []).append(crate.name)
+    wrong += [f"{LIST}: `{crate}` is before the first section" for crate in sections.pop(("", ""), [])]
+    for (area, words), crates in sections.items():
+        lines += ["", f"## `{area}_`: {words}", ""]
+        for crate in in_order(crates, needs):
             line = line_of(crate)
             if line:
                 lines.append(line)
             else:
                 wrong.append(f"crates/{crate}: src/lib.rt or src/main.rt has no head")
-    wrong += [f"{LIST}: `{crate}` is before the first section" for crate in needs if crate not in listed]
     return "\n".join(lines) + "\n", wrong
 
 
 def main(words):
+    if words[:1] == ["--below"]:
+        lines = {crate.name: crate.line() for crate in sources.listed_crates()}
+        print("".join(f"{lines[name]}\n" for name in sources.all_below(words[1], sources.crates())), end="")
+        return 0
     page, wrong = made()
     path = os.path.join(TOP, PAGE)
     if "--write" in words:

@@ -3,17 +3,22 @@
 
 A run is a command and what it prints. A line that begins with `$ ` is a command, for bash, at the top of the repository; the
 lines after it are what it prints, to standard output and standard error; the last may be its status in brackets, `[1]`, which
-is 0 where none stands. A line that begins with `# ` is a comment. Runs stand in examples/*/runs.txt, and in README.md, GUIDE.md and CONTRIBUTING.md in each block that
-begins with ```console.
+is 0 where none stands. A line that begins with `# ` is a comment. Runs are in examples/*/runs.txt, and in README.md, GUIDE.md and
+CONTRIBUTING.md in each block that begins with ```console.
+
+The form is like that of cram's tests. But cram takes only indented lines for runs, which those of pages are not, and it compares none of
+the places that pages name.
 
 --check runs them all and prints each line that differs; its status is then 1. It also compares the places that these pages
 name, as in `examples/refused/unknown_field.graphql:4:5`: each must be that of a fault which one of the runs prints. Runs need
 the programs that `rt ci` leaves or `./graphql-checked` and `./graphql-report` keep; where one is not built from these sources, it
-says so, leaves out its runs, and the status is 1. Lines of `--format json` and `--batch` are read back as JSON. --write puts what is printed into examples/*/runs.txt, which must then be read: an expected line comes from the
-specification, not from the program.
+says so, leaves out its runs, and the status is 1. Lines of `--format json` and `--batch` are read back as JSON. Each fault that
+examples/mistakes prints has a place and a line of help. --write puts what is printed into examples/*/runs.txt, which must then be read:
+an expected line comes from the specification, not from the program.
 
 --program runs FILE wherever a command has `./graphql-checked`, and of all runs those of examples/FOLDER alone that have it.
 """
+
 import concurrent.futures
 import difflib
 import glob
@@ -137,6 +142,16 @@ def unread(run, lines):
     return [line for line in lines if wanted and line.startswith("{") and not is_json(line)]
 
 
+def unhelped(run, lines):
+    """The faults of a run of examples/mistakes that have no place, but those of a whole schema, or no line of help."""
+    if not run.path.startswith("examples/mistakes/"):
+        return []
+    heads = [number for number, line in enumerate(lines) if re.search(r"\berror\[\w+\]: ", line)]
+    parts = [lines[begin:end] for begin, end in zip(heads, heads[1:] + [len(lines)])]
+    placed = re.compile(r"[^:]+(:\d+:\d+|(?=: error\[QueryRootOperationType\])): error\[")
+    return [part[0] for part in parts if not placed.match(part[0]) or not any(line.startswith("  = help: ") for line in part)]
+
+
 def rewritten(path):
     """A file of runs with what they print."""
     lines, text = read(path).split("\n"), read(path)
@@ -174,6 +189,9 @@ def compared(runs, told):
         for line in unread(run, found):
             wrong += 1
             print(f"{run.path}:{run.line}: prints what is not JSON: {line}")
+        for line in unhelped(run, found):
+            wrong += 1
+            print(f"{run.path}:{run.line}: has no place or no help: {line}")
         if found != run.wanted:
             wrong += 1
             print(f"{run.path}:{run.line}: $ {run.command}")

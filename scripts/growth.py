@@ -56,7 +56,7 @@ class Known(NamedTuple):
 
 # The families that are known to be worse than wanted.
 KNOWN = {
-    "sets_in_halves": Known(factor=4.37),
+    "told_args": Known(factor=2.43),
 }
 
 

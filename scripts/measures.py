@@ -6,7 +6,7 @@ docs/RULES.md tell what is wrong; private clauses of more than 160 characters; f
 are no tables. --list prints each of these with its place. --check prints which measure is past its bound; its status
 is then 1.
 
-A function of 40 lines has 40 lines between its braces, clauses aside. It is a table if it is one `match` whose arms only make or
+A function of 40 lines has 40 lines between its braces, without clauses. It is a table if it is one `match` whose arms only make or
 name a value: none has a condition, a loop, or another `match`. `self` counts as a parameter. A clause is counted with its keyword
 and its label, as on one line; it is private unless it is one of what the users' crates give.
 """
@@ -49,7 +49,7 @@ class Found:
 
 
 def past_generics(bare, at):
-    """The place behind the generics that begin there, if any do."""
+    """The place after the generics that begin there, if any do."""
     if bare[at : at + 1] != "<":
         return at
     depth = 0

@@ -1,24 +1,26 @@
 #!/usr/bin/env python3
-"""Whether the pages say what is there: scripts/pages.py [--check] [--clauses]
+"""Whether the pages say what is there: scripts/pages.py [--check] [--clauses] [--names]
 
 --check prints what is wrong, a line each, and its status is then 1: README.md has more than 150 lines or 900 words, or all pages
-(*.md at the top and in docs/) have more than 22,000 words; a page, a page of a crate (crates/**/*.md), or a comment of a crate's
-src/ or specs/ or of a script has a word that the last table of CONTRIBUTING.md refuses; a relative link of a page leads to no file; a name that reads as a crate of the
-repository is not in crates.txt; one in backticks that reads as a file (`name.rt`, `Name.antt`, `name.rows`, `name.edit`,
-`name.py`) is the name of no file; a table of docs/PROMISES.md names a function, a clause or a definition that is not there;
-docs/PROMISES.md or docs/MAP.md says nothing of a crate of crates.txt; a line of a block after `<!-- from PATH -->` is not in that
-file, after the lines before it; a public clause is longer than 160 characters. crates/README.md is read as a page is, but its words are
-not counted: they are those of the sources.
+(*.md at the top and in docs/) have more than 22,000 words; a page, a page of a crate (crates/**/*.md), a list of docs/ (*.txt), or a
+comment of a crate's src/ or specs/ or of a script has a word that the last table of CONTRIBUTING.md refuses; a relative link of a
+page leads to no file; a name that reads as a crate of the repository is not in crates.txt; one in backticks that reads as a file
+(`name.rt`, `Name.antt`, `name.rows`, `name.edit`, `name.py`) is the name of no file; docs/MAP.md says nothing of a crate of
+crates.txt; a line of a block after `<!-- from PATH -->` is not in that file, after the lines before it; a public clause is longer
+than 160 characters. crates/README.md is read as a page is, but its words are not counted: they are those of the sources.
 
 What reads as a crate: a word that begins with `graphql_` and is none of the header for C; one that begins as the crates of an area do (`tree_`, `read_`, ..), if the
 sources have nothing else of that name, neither an item, a definition nor a file; and, whatever it begins with, a name in backticks
 in a heading of docs/PROMISES.md, or in a column of a table whose head has the word crate or crates.
 
---clauses prints the clauses that are too long, the longest first.
+--clauses prints the clauses that are too long, the longest first. --names prints the names of definitions, items, clauses and locals of
+crates that have a word which pages must not have, as `stands_in` and `StandsIn`: more than there are now are wrong.
 """
+import io
 import os
 import re
 import sys
+import tokenize
 
 import believed
 import sources
@@ -27,6 +29,9 @@ from sources import TOP
 LINES = 150
 CHARACTERS = 160
 README_WORDS, ALL_WORDS = 900, 22000
+
+# How many names with a word that is refused may be left: with each that gets a better one it goes down.
+NAMES = 48
 
 # the line after which CONTRIBUTING.md has the words that pages and doc comments must not have.
 WORDS = "<!-- the words that scripts/pages.py refuses -->"
@@ -102,37 +107,8 @@ def unknown_files(path, text, files):
                 yield f"{path}:{number}: `{word}` is the name of no file"
 
 
-def unknown_clauses(path, library):
-    """The functions, clauses and definitions that the tables of a page name as what promises, and that are not there.
-
-    A cell is parts with `;` between: names of functions, then after `:` the names of their clauses. A part without a function
-    is about those of the part before."""
-    clauses, known = {}, set()
-    for source in sources.paths("crates/*/src/*.rt"):
-        text = sources.masked(sources.read(source))
-        for function in sources.functions(sources.read(source), text):
-            clauses.setdefault(function.name, set()).update(label.split()[-1] for _, label, _, _ in function.clauses if label)
-        known |= set(re.findall(r"\b(?:fn|struct|enum|trait|type|ghost) (\w+)", text))
-    for file in library.files.values():
-        known |= set(file.definitions) | set(file.owners)
-    functions, by = [], False
-    for number, line in enumerate(sources.read(path).split("\n"), 1):
-        cells = [cell.strip() for cell in line.strip("|").split("|")] if line.startswith("|") else []
-        by = len(cells) == 2 and (by or cells[1] == "By")
-        for part in cells[1].split("; ") if by else []:
-            names, _, labels = part.partition(": ")
-            named = [name.split("::")[-1] for name in re.findall(r"`([\w:]+)`", names)]
-            functions = named or functions
-            for name in named:
-                if name not in clauses and name not in known and name not in sources.crates():
-                    yield f"{path}:{number}: `{name}` is no function and no definition"
-            for label in re.findall(r"`(\w+)`", labels):
-                if not any(label in clauses.get(name, ()) for name in functions):
-                    yield f"{path}:{number}: `{label}` is no clause of {', '.join(functions)}"
-
-
 def misquoted(path, text):
-    """The lines of quoted blocks that do not stand in the file from which they come, in their order."""
+    """The lines of quoted blocks that are not in the file from which they come, in their order."""
     for block in re.finditer(r"^<!-- from (\S+) -->\n```\w*\n(.*?)^```$", text, re.M | re.S):
         if not os.path.exists(os.path.join(TOP, block.group(1))):
             yield f"{path}: quotes {block.group(1)}, which is no file"
@@ -152,6 +128,22 @@ def refused_words():
         words, use = (cell.strip() for cell in line.strip("|").split("|"))
         either = "|".join(r"[^\S\n]*\s[^\S\n]*".join(map(re.escape, word.split())) for word in words.split(", "))
         yield re.compile(rf"\b(?:{either})\b", re.I), use
+
+
+def words_of(name):
+    """The words of a name, with a space around each."""
+    return " " + re.sub(r"[_\s-]+", " ", re.sub(r"([a-z0-9])([A-Z])", r"\1 \2", name)).lower() + " "
+
+
+def badly_named(library, refused):
+    """The names that have words which are refused: where each is, and the name."""
+    found = [(f"{file.path}:{made.line}", name) for file in library.files.values() for name, made in file.definitions.items()]
+    found += [(file.path, name) for file in library.files.values() for name in file.modules]
+    named = re.compile(r"\b(?:fn|struct|enum|trait|type|const|mod|static|let mut|let) (\w+)|\b(?:ensures|requires|follows) (?:\* )?(\w+) \{")
+    for path in sources.paths("crates/*/src/*.rt"):
+        text = sources.masked(sources.read(path))
+        found += [(f"{path}:{text.count(chr(10), 0, it.start()) + 1}", it.group(1) or it.group(2)) for it in named.finditer(text)]
+    return [(where, name) for where, name in found if any(pattern.search(words_of(name)) for pattern, _ in refused)]
 
 
 def prose(path, text):
@@ -180,26 +172,45 @@ def comments(text, mark):
         yield found.group(1).removeprefix(" ") if found else ""
 
 
+def python_comments(text):
+    """The lines of a source in Python: of comments, and of strings that have several lines or are a statement, their text."""
+    lines, depth, before = [""] * (text.count("\n") + 2), 0, tokenize.NEWLINE
+    for token in tokenize.generate_tokens(io.StringIO(text).readline):
+        is_statement = depth == 0 and before in (tokenize.NEWLINE, tokenize.INDENT, tokenize.DEDENT, tokenize.NL, tokenize.COMMENT)
+        if token.type == tokenize.COMMENT or (token.type == tokenize.STRING and (is_statement or token.start[0] != token.end[0])):
+            for number, part in enumerate(token.string.split("\n"), token.start[0]):
+                lines[number] += " " + part.strip("#\" ")
+        depth += {"(": 1, "[": 1, "{": 1, ")": -1, "]": -1, "}": -1}.get(token.string, 0) if token.type == tokenize.OP else 0
+        before = token.type
+    return lines[1:]
+
+
+def script_comments(path):
+    """The comments of a script, line by line."""
+    text = sources.read(path)
+    is_python = path.endswith(".py") or "python" in text.split("\n", 1)[0]
+    return "\n".join(python_comments(text) if is_python else comments(text, "#"))
+
+
 def badly_commented(refused):
-    """The words that are refused, in the pages of crates, in the comments of their sources and definitions, and in those of scripts."""
-    for path in sources.paths("crates/*/*.md") + sources.paths("crates/*/*/*.md"):
+    """The words that are refused: in pages of crates, in lists that pages are made from, in comments of sources, definitions and scripts."""
+    for path in sources.paths("crates/*/*.md") + sources.paths("crates/*/*/*.md") + sources.paths("docs/*.txt"):
         yield from badly_worded(path, sources.read(path), refused)
     for path in sources.paths("crates/*/src/*.rt"):
         yield from badly_worded(path, "\n".join(comments(sources.read(path), "//")), refused)
     for path in sources.paths("crates/*/specs/*.antt"):
         yield from badly_worded(path, "\n".join(comments(sources.read(path), "--")), refused)
-    for path in sources.paths("scripts/*"):
-        if os.path.isfile(os.path.join(TOP, path)):
-            yield from badly_worded(path, "\n".join(comments(sources.read(path), "#")), refused)
+    for path in [".ci/run", *sources.paths("scripts/*"), *sources.paths("scripts/*/*")]:
+        if os.path.isfile(os.path.join(TOP, path)) and not path.endswith((".go", ".js")) and "__pycache__" not in path:
+            yield from badly_worded(path, script_comments(path), refused)
 
 
 def left_out(crates):
-    """The crates that a page leaves out."""
-    for path in ("docs/PROMISES.md", "docs/MAP.md"):
-        named = set(re.findall(r"\w+", sources.read(path)))
-        for crate in crates:
-            if crate not in named:
-                yield f"{path}: says nothing of `{crate}`"
+    """The crates that docs/MAP.md leaves out."""
+    named = set(re.findall(r"\w+", sources.read("docs/MAP.md")))
+    for crate in crates:
+        if crate not in named:
+            yield f"docs/MAP.md: says nothing of `{crate}`"
 
 
 def long_clauses(library):
@@ -237,8 +248,13 @@ def main(words):
         if count > most:
             wrong.append(f"{name}: {count} words, more than {most}")
     wrong += badly_commented(refused)
-    wrong += unknown_clauses("docs/PROMISES.md", library)
     wrong += left_out(crates)
+    names = badly_named(library, refused)
+    if "--names" in words:
+        print("\n".join(f"{where}: {name}" for where, name in names))
+        return 0
+    if len(names) > NAMES:
+        wrong.append(f"{len(names)} names have a word that is refused, more than {NAMES}; scripts/pages.py --names prints them")
     clauses = long_clauses(library)
     if "--clauses" in words:
         print("\n".join(f"{length} characters: {where}" for length, where in clauses))

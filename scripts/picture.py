@@ -2,8 +2,12 @@
 """The road from bytes to verdict, as docs/road.svg: scripts/picture.py [--write] [--check]
 
 Each arrow is a public function with a clause whose words have a relation: what is proved of that step. The crate is looked up in
-the sources, and must be in crates.txt; that of a road's last step must depend on those of all steps before it. --write writes the picture. --check prints a line for each clause or relation that is not there, each crate
-that the last step does not depend on, and one where docs/road.svg is not what this makes; its status is then 1.
+the sources, and must be in crates.txt; that of a road's last step must depend on those of all steps before it.
+
+The picture is drawn here and not by graphviz, whose versions draw one graph differently: so a check could not compare it.
+
+--write writes the picture. --check prints a line for each clause or relation that is not there, each crate that the last step does
+not depend on, and one where docs/road.svg is not what this makes; its status is then 1.
 """
 import html
 import os

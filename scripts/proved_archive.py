@@ -3,10 +3,12 @@
 
 `rt ci` proves graphql_checked_c and makes no archive of it, and `rt lib` would prove all crates below once more. This proves that
 crate once more, over the libraries that `rt ci` left in out/rlib of each crate, and builds out/libgraphql_checked_c.a of it, as
-`rt lib` does. The status is 0 where that is proved and built, and 1 where it is not, or where a library is not there or is older
-than a source: then nothing is built.
+`rt lib` does. It tells the verdict, which is to rest on no more than `rt ci` allows, and how many processor seconds it took. The status
+is 0 where that is proved and built, and 1 where it is not, or where a library is not there or is older than a source: then nothing is
+built.
 """
 import os
+import resource
 import shutil
 import subprocess
 import sys
@@ -36,13 +38,19 @@ def main():
     jobs = ["--jobs", str(len(os.sched_getaffinity(0)))]
     words = [f"{kit}/bin/rattle", "build", *crate.words(jobs, keeps=False), "--toolchain", f"{kit}/toolchain", "--backend", "llvm"]
     os.makedirs(f"{folder}/out", exist_ok=True)
-    archive = f"out/lib{LIBRARY}.a"
+    archive, made = f"{folder}/out/lib{LIBRARY}.a", f"{folder}/out/lib{LIBRARY}.new.a"
     how = {"cwd": folder, "stdin": subprocess.DEVNULL, "stdout": subprocess.PIPE, "stderr": subprocess.STDOUT, "text": True, "errors": "replace"}
-    done = subprocess.run([*words, "-o", archive], **how)
+    done = subprocess.run([*words, "-o", made], **how)
     verdict = [line for line in done.stdout.splitlines() if line.startswith("logic=")]
-    is_made = done.returncode == 0 and len(verdict) == 1 and verdict[0].startswith("logic=proved ") and os.path.isfile(f"{folder}/{archive}")
-    print(f"{LIBRARY}: {verdict[0]}" if is_made else done.stdout)
-    return 0 if is_made else 1
+    is_proved = done.returncode == 0 and len(verdict) == 1 and rtlib.VERDICT.fullmatch(f"{verdict[0]}\n") is not None
+    if not is_proved or not os.path.isfile(made):
+        print(done.stdout)
+        print("proved_archive: it is not proved, or its verdict rests on what those of `rt ci` do not")
+        return 1
+    os.replace(made, archive)
+    used = resource.getrusage(resource.RUSAGE_CHILDREN)
+    print(f"{LIBRARY}: {verdict[0]}; {used.ru_utime + used.ru_stime:.0f} processor seconds")
+    return 0
 
 
 if __name__ == "__main__":

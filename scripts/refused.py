@@ -1,5 +1,5 @@
 #!/usr/bin/env python3
-"""Whether want of memory is told at each allocation: refused.py [--sample N] [--jobs N] [--states] [PROGRAM [WORD]]
+"""Whether `out of memory` is told at each allocation: refused.py [--sample N] [--jobs N] [--states] [PROGRAM [WORD]]
 
 PROGRAM is the built program of `graphql_checked_program`; without it the proved one that `rt ci` or `rt run` leaves in its `out/`. It is
 run on rows of the whole checker (CALLS), each time with one request for memory refused, and with all from one on, by a few lines of C
@@ -7,17 +7,17 @@ that are built by `cc` into a folder that is removed again and stand before the 
 request is refused in turn, both ways; of each other row N of them (12), spread evenly, the one way and the other in turn; of a
 row with several documents or limits the first that the program's words can name. With WORD only rows whose names have it are tried.
 
-Each run is to end with status 4, `out of memory` and nothing out. A run may give the whole right answer all the same, where what was
+Each run is to end with status 4, `out of memory` and nothing out. A run may still give the whole right answer, where what was
 refused was a hint alone, such as a number of places asked for beforehand: a line tells which request that was and of how many bytes.
 Every other run is printed. The last line has the counts, and the status is 1 where a run was otherwise, where a row of WHOLE is not
 there or is not answered as it wants, and where no request is seen: an unproved build (`rt try`) brings an allocator of its own.
 
 With --states PROGRAM is that of `row_checker`, and its rows of the call `series` are run: one schema answers several documents, and
-the first of them twice. Each request, or 50 times N of them, is refused alone, so that memory is there again behind it. Either the row
-is not judged, or one answer is want of memory and each other one is right, those of the same schema behind it among them.
+the first of them twice. Each request, or 50 times N of them, is refused alone, so that memory is there again after it. Either the row
+is not judged, or one answer is `out of memory` and each other one is right, those of the same schema after it among them.
 
-With --library PROGRAM is that of `examples/c/abuse.c`, which compares the answers of the library for C by itself, and takes want of
-memory for right where some is refused: alone, it asks again and wants the right answer. Each request, or 50 times N of them, is
+With --library PROGRAM is that of `examples/c/abuse.c`, which compares the answers of the library for C by itself, and takes
+`out of memory` for right where some is refused: alone, it asks again and wants the right answer. Each request, or 50 times N of them, is
 refused, alone and with all from it on."""
 
 import argparse
@@ -185,7 +185,7 @@ class Runs:
         self.right, self.requests, _, _ = self.run()
 
     def refuse(self, number, is_each):
-        """What is to be told of a run in which the request of this number is refused, alone or with all behind it: a kind and a line."""
+        """What is to be told of a run in which the request of this number is refused, alone or with all after it: a kind and a line."""
         answer, _, refused, size = self.run(number, is_each)
         way = "from there on" if is_each else "alone"
         said = f"{self.row.name}: request {number} of {self.requests}, {size} bytes, refused {way}"
@@ -210,7 +210,7 @@ class Pair(Runs):
                 file.write(text)
 
     def is_told(self, answer):
-        """Whether the answer tells want of memory, and nothing is out."""
+        """Whether the answer is `out of memory`, and nothing is out."""
         return answer == (4, b"", b"out of memory\n")
 
     def is_right(self):
@@ -235,7 +235,7 @@ class Series(Runs):
         return self.right[0] == 0
 
     def is_told(self, answer):
-        """Whether the row is not judged, or want of memory is the answer to one document alone, and each other answer is right."""
+        """Whether the row is not judged, or `out of memory` is the answer to one document alone, and each other answer is right."""
         if answer[0] == 2:
             return True
         got = re.search(rb"(?m)^  got: (.*?) `(.*)`$", answer[1])
@@ -270,7 +270,7 @@ class Calls(Runs):
         return self.right == (0, b"as wanted\n", b"")
 
     def is_told(self, answer):
-        """Whether want of memory was an answer, and it tells of no difference."""
+        """Whether `out of memory` was an answer, and it tells of no difference."""
         return answer == (0, b"as wanted, out of memory told\n", b"")
 
 

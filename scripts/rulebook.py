@@ -2,8 +2,8 @@
 """What is written from docs/rulebook.txt: scripts/rulebook.py [--check] [--write] [--count]
 
 The rulebook has an entry for each variant of the three enums of faults. All that is the list of these variants again is written
-from it: the enums and their `Drop`, the copies, the views, the messages, the names, the maps of places, why `==` decides what is
-seen. A part that is written stands in a file with other text, and is found by the item in which it stands; no mark in the file
+from it: the enums and their `Drop`, the copies, the views, the messages, the names, the maps of places, which faults last, why `==`
+decides what is seen. A part that is written is in a file with other text, and is found by the item in which it is; no mark in the file
 says so.
 
 --check prints a line for each part that is not what the rulebook makes, with the place where it first differs, and each entry that
@@ -18,7 +18,7 @@ import sources
 from variants import (
     COPIED, DATA, TYPES, alphabet, box_drop_lines, box_lines, clone_lines, conflict, conflict_lines,
     constructor_lines, copied_lines, decided_lines, document_gap_words, document_view, document_words, drop_by_owned_lines,
-    drop_lines, equations, folding_message, folding_words, gap_words, group_lines, letters, message_arms,
+    drop_lines, equations, folding_message, folding_words, gap_words, group_lines, lasts_lines, letters, matches_lines, message_arms,
     message_text, name_lines, owned, plain_applied, repeat_error_lines, repeat_lines, repeating, short_view,
     template_lines, unplaced, variant_lines, with_lines, with_trace,
 )
@@ -26,6 +26,9 @@ from variants import (
 BOOK = "docs/rulebook.txt"
 SAME = "crates/graphql_faults/proofs/"
 STAGES = ["folding", "schemas", "typing", "documents", "merging"]
+
+# What `lasts` says of an entry of an enum: of those without it the other is so. Of folding nothing is said.
+LASTS = {"DiagnosticData": "no", "BuildError of documents": "yes"}
 
 
 # ---- the rulebook
@@ -95,11 +98,14 @@ class Entry:
         if ("stage" in self.lines) == ("never" in self.lines):
             yield f"{self.name} has to have a `stage` or `never`"
         yield from (f"{self.name}: `{stage}` is no stage" for stage in self.stages() if stage not in STAGES)
+        if "lasts" in self.lines and not re.match(rf"{LASTS.get(enum, 'nothing')}: .", self.one("lasts")):
+            yield f"{self.name}: `lasts` has to begin with `{LASTS.get(enum, 'nothing')}: `"
         named = {field.name: field.type for field in self.data}
         unknown = [gap for gap in self.gaps() if not set(gap.split(".")) <= set(named)]
         yield from (f"{self.name}: `{gap}` is no field" for gap in unknown)
         if not unknown and not can_fill(enum, [[named[name] for name in gap.split(".")] for gap in self.gaps()]):
             yield f"{self.name}: the texts of {enum} have no template with such gaps"
+        yield from (f"{self.name}: the comment of `{field.name}` is written nowhere, since the data are in no box" for field in self.data if field.comment and not self.is_boxed)
         if len(owned(self)) > 8:
             yield f"{self.name}: scripts/variants.py writes copies of at most eight values"
 
@@ -114,10 +120,10 @@ def can_fill(enum, gaps):
     return gaps in ([], [["Name"]], [["OperationType"]], [["Name"], ["Name"]])
 
 
-def entries():
-    """The entries of the rulebook, by enum."""
+def entries(text=None):
+    """The entries of the rulebook, or of a text of its form, by enum."""
     found, enum, group, entry, key = {}, None, "", None, ""
-    for number, line in enumerate(sources.read(BOOK).split("\n"), 1):
+    for number, line in enumerate((text or sources.read(BOOK)).split("\n"), 1):
         if line.startswith("#") or not line.strip():
             continue
         heading = re.match(r"(====|----) (.+)$", line)
@@ -129,7 +135,7 @@ def entries():
         elif re.fullmatch(r"\w+", line):
             entry = Entry(line, group, number)
             enum.append(entry)
-        elif spoken and spoken.group(1) in ("valid", "stage", "never", "fault", "boxed", "repeat", "data", "message"):
+        elif spoken and spoken.group(1) in ("valid", "stage", "never", "lasts", "fault", "boxed", "repeat", "data", "message"):
             key = spoken.group(1)
             entry.lines[key] = [spoken.group(2)]
         elif line.startswith("     ") and key in ("valid", "data"):
@@ -156,16 +162,24 @@ def at(lines, head, start=0):
     return next((number for number in range(start, len(lines)) if lines[number].startswith(head)), None)
 
 
+def item_end(lines, first):
+    """The line that closes the item, or what is in it, that begins at a line; None where it is on one line or is not closed."""
+    return at(lines, " " * (len(lines[first]) - len(lines[first].lstrip())) + "}", first + 1)
+
+
+def opened(lines, head, starts):
+    """The line in the item that begins so for which it holds that it starts what is looked for."""
+    first = at(lines, head)
+    end = None if first is None else item_end(lines, first)
+    return None if end is None else next((number for number in range(first, end) if starts(lines[number])), None)
+
+
 def inside(head, opener=None):
-    """What stands in the braces of the item that begins so, or of the first line in it that begins as `opener`."""
+    """What is in the braces of the item that begins so, or of the first line in it that begins as `opener`."""
 
     def find(lines):
-        first = at(lines, head)
-        if first is not None and opener:
-            first = next((number for number in range(first, len(lines)) if lines[number].strip().startswith(opener)), None)
-        if first is None:
-            return None
-        end = at(lines, " " * (len(lines[first]) - len(lines[first].lstrip())) + "}", first + 1)
+        first = opened(lines, head, lambda line: line.strip().startswith(opener)) if opener else at(lines, head)
+        end = None if first is None else item_end(lines, first)
         return None if end is None else (first + 1, end)
 
     return find
@@ -202,6 +216,16 @@ def line(head):
     def find(lines):
         first = at(lines, head)
         return None if first is None else (first, first + 1)
+
+    return find
+
+
+def matched(head):
+    """The patterns of the `matches!` in the item that begins so, after the line of what is matched."""
+
+    def find(lines):
+        first = opened(lines, head, lambda line: line.endswith("matches!("))
+        return None if first is None else (first + 2, at(lines, "    )", first))
 
     return find
 
@@ -296,10 +320,23 @@ def name_parts(folding, data, documents):
                    equations(function, e, prefix, lambda entry: f'codes "{entry.name}"', alphabet))
 
 
+def lasting_parts(data, documents):
+    code, specs = "crates/graphql_validation/src/filters.rt", "crates/graphql_validation/specs/Lasts.antt"
+    # Those that are told of documents alone come first.
+    passing, lasting = (sorted((entry for entry in e if "lasts" in entry.lines), key=lambda entry: len(entry.stages())) for e in (data, documents))
+    for function, enum, type_name, e, is_so, front in [
+        ("data_lasts", DATA, "Diagnostic", passing, "false", "use Rattle.rule_definitions.specs.Diagnostics.{Diagnostic, "),
+        ("breach_lasts", "BuildError", "DocumentBreach", lasting, "true", "use Rattle.fault_document_errors.specs.DocumentBreaches.{DocumentBreach, "),
+    ]:
+        yield Part(code, function, matched(f"fn {function}("), matches_lines(enum, e))
+        yield Part(specs, f"the import of {type_name}", line(front), imported(front, e))
+        yield Part(specs, function, below(f"  abbrev pub {function} "), lasts_lines(function, e, is_so))
+
+
 def parts(book):
     """All parts that are written from the rulebook."""
     folding, data, documents = book["BuildError of schemas"], book["DiagnosticData"], book["BuildError of documents"]
-    return [*folding_parts(folding), *data_parts(data), *document_parts(documents), *name_parts(folding, data, documents)]
+    return [*folding_parts(folding), *data_parts(data), *document_parts(documents), *name_parts(folding, data, documents), *lasting_parts(data, documents)]
 
 
 # ---- check, write, count

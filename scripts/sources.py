@@ -21,14 +21,52 @@ def read(path):
         return file.read()
 
 
+class Crate:
+    """A crate of crates.txt: its name, whether it is a library for C, what it depends on, and the area and the words of the comment that
+    begins its section; of those before the first section both are empty."""
+
+    def __init__(self, name, is_static, needs, area, words):
+        self.name, self.is_static, self.needs, self.area, self.words = name, is_static, needs, area, words
+
+    def line(self):
+        """Its line."""
+        return f"{self.name}{' staticlib' * self.is_static}: {' '.join(self.needs)}".strip()
+
+
+def listed(text):
+    """The crates that a text of the form of crates.txt lists, in its order."""
+    found, section = [], ("", "")
+    for line in text.splitlines():
+        comment = re.match(r"# (\w+): (.+)$", line)
+        crate = re.match(r"(\w+)( staticlib)?:(.*)$", line.split("#")[0].strip())
+        if comment:
+            section = comment.groups()
+        elif crate:
+            found.append(Crate(crate.group(1), bool(crate.group(2)), crate.group(3).split(), *section))
+    return found
+
+
+def listed_crates():
+    """The crates of crates.txt, in its order."""
+    return listed(read("crates.txt"))
+
+
 def crates():
-    """The crates of crates.txt in its order, each with what it stands on, the kit's libraries among them."""
-    found = {}
-    for line in read("crates.txt").splitlines():
-        line = line.split("#")[0].strip()
-        if line:
-            name, below = line.split(":")
-            found[name.split()[0]] = below.split()
+    """The crates of crates.txt in its order, each with what it depends on, the kit's libraries among them."""
+    return {crate.name: crate.needs for crate in listed_crates()}
+
+
+def all_below(name, needs):
+    """A crate and all that it depends on, directly or through others, each after what it depends on; the kit's libraries are left out."""
+    found = []
+
+    def visit(crate):
+        if crate in needs and crate not in found:
+            for low in needs[crate]:
+                visit(low)
+            found.append(crate)
+
+    visit(name)
     return found
 
 
@@ -70,7 +108,7 @@ def without_strings(text):
 
 
 class Specs:
-    """A file of definitions: what it imports, what it defines, and what it gives again."""
+    """A file of definitions: what it imports, what it defines, and what it re-exports."""
 
     def __init__(self, path):
         self.path = path
@@ -198,7 +236,7 @@ class Library:
         return None
 
     def find(self, path, name):
-        """The definition that has a name in a file, there or in a file that it gives again; None where there is none."""
+        """The definition that has a name in a file, there or in a file that it re-exports; None where there is none."""
         file = self.files[path]
         if name in file.definitions:
             return file.definitions[name]
@@ -268,13 +306,13 @@ class Library:
 
 
 def masked(text):
-    """A source in which comments, and what stands in strings and characters, are blank."""
+    """A source in which comments, strings and characters are blank."""
     pattern = re.compile(r"""//[^\n]*|/\*.*?\*/|b?"(?:[^"\\]|\\.)*"|b?'(?:[^'\\]|\\.[^']*)'""", re.S)
     return pattern.sub(lambda m: re.sub(r"[^\n]", " ", m.group(0)), text)
 
 
 def closing(text, at):
-    """The place behind the bracket that closes the one at a place of a masked source."""
+    """The place after the bracket that closes the one at a place of a masked source."""
     pairs = {"(": ")", "{": "}", "[": "]"}
     depth, opening, ending = 0, text[at], pairs[text[at]]
     for here in range(at, len(text)):
@@ -367,7 +405,7 @@ def blocks(bare):
 
 
 def without_generics(text):
-    """The text without what stands in angle brackets."""
+    """The text without what is in angle brackets."""
     while True:
         shorter = re.sub(r"<[^<>]*>", "", text)
         if shorter == text:
@@ -389,7 +427,7 @@ def ghost_uses(text):
 
 
 def uses(text):
-    """The names that a source gives again and takes from elsewhere: (public, path, name, name here)."""
+    """The names that a source re-exports and takes from elsewhere: (public, path, name, name here)."""
     found = []
     for use in re.finditer(r"^(pub )?use ([^;]+);", masked(text), re.M):
         path, names, alias = use_of(re.sub(r"\s+", " ", use.group(2)))

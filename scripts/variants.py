@@ -3,7 +3,7 @@ of `rt fmt`, or as lines of definitions."""
 import re
 
 WIDTH = 100  # columns of a line of Rust, as `rt fmt` lays it out
-LITERAL_WIDTH, VARIANT_WIDTH, CALL_WIDTH, SHORT_WIDTH = 18, 35, 60, 10  # what stands on one line within braces or brackets
+LITERAL_WIDTH, VARIANT_WIDTH, CALL_WIDTH, SHORT_WIDTH = 18, 35, 60, 10  # what is on one line within braces or brackets
 
 
 # ---- types of data
@@ -107,7 +107,7 @@ def literals(head, items):
 
 
 def in_ok(layouts):
-    """The layouts of a value in `Ok(..)`: what has several lines begins behind the bracket, or on a line of its own."""
+    """The layouts of a value in `Ok(..)`: what has several lines begins after the bracket, or on a line of its own."""
     made = [[f"Ok({lines[0]})"] for lines in layouts if len(lines) == 1]
     made += [["Ok(" + lines[0]] + lines[1:-1] + [lines[-1] + ")"] for lines in layouts if len(lines) > 1 and len(lines[0]) <= CALL_WIDTH]
     return made + [["Ok("] + indented(lines[:-1] + [lines[-1] + ","]) + [")"] for lines in layouts]
@@ -230,7 +230,7 @@ LET_GO = {("Name",): ["_name"], ("Name", "places"): ["_name", "_places"], ("Stri
 
 
 def drop_by_owned_lines(enum, entries):
-    """Variants that own the same let go of it in one arm; all others, in the last arm, of what each owns."""
+    """Variants that own the same drop it in one arm; all others drop what they own in the last arm."""
     groups = {}
     for entry in entries:
         groups.setdefault(tuple(field.type for field in owned(entry)), []).append(entry)
@@ -377,7 +377,7 @@ def told_pattern(enum, entry):
 
 
 def by_message(entries):
-    """Variants that stand behind each other and tell the same, together."""
+    """Variants that follow each other and tell the same, together."""
     groups = []
     for entry in entries:
         is_same = groups and entry.parts == groups[-1][0].parts and entry.parts[1:] and entry.name not in APART
@@ -581,6 +581,19 @@ def group_lines(function, entries, kind, result, otherwise):
 
 
 # ---- `==` and what contracts see
+
+
+def matches_lines(enum, entries):
+    """The patterns of a `matches!`: these variants, whatever their data."""
+    fields = lambda entry: "(_)" if entry.is_boxed else " { .. }" if entry.data else ""
+    patterns = [f"{enum}::{entry.name}{fields(entry)}" for entry in entries]
+    return [f"        {patterns[0]}"] + [f"            | {pattern}" for pattern in patterns[1:]]
+
+
+def lasts_lines(function, entries, is_so):
+    """A function to `Bool`: of these variants it is so, of all others the other."""
+    other_is = {"true": "false", "false": "true"}[is_so]
+    return equations(function, entries, "", lambda entry: is_so, indent="  ") + [f"  {function} _ = {other_is}"]
 
 
 def paired(items, join):

@@ -14,7 +14,7 @@
  *   threads        four threads, each with its own handle
  *   shared N       four threads with one handle, which ask it N times each: each is answered, or told that it is busy
  *   fork           children that are forked while another thread is in a call: each ends with an answer
- *   signal         a signal handler that asks the handle that is asked: it is told that it is busy
+ *   signal         a signal handler that asks, opens and closes the handle that is asked: it is told that it is busy
  *   opens N        N handles opened and closed: nothing is left of them
  *   documents N    N documents that are accepted over one handle, and N that are refused: nothing is left of them. Tells how much
  *                  processor time each takes. SCHEMA and DOCUMENT are files, in place of small texts
@@ -119,6 +119,7 @@ static int is(int line, graphql_checked_status wanted) {
 /* What is no opening. Each leaves the handle without a schema. */
 static void not_opened(graphql_checked_schema *schema) {
     static const graphql_checked_text no_bytes = {0, 1, 0}, nothing = {0, 0, 0}, huge[] = {{"", PTRDIFF_MAX, 0}, {"", PTRDIFF_MAX, 0}, {"", 2, 0}};
+    static const size_t no_sizes[] = {0, 1, offsetof(graphql_checked_options, nesting) + 4, sizeof(graphql_checked_options) - 1, 1 << 20, SIZE_MAX - 7, SIZE_MAX};
     struct { graphql_checked_options known; size_t more; } later = {AS_JSON, 1};
     graphql_checked_options other = AS_JSON;
     ASK(GRAPHQL_CHECKED_NULL, graphql_checked_open(0, A_FIELD, 1, 0, &answer));
@@ -132,8 +133,11 @@ static void not_opened(graphql_checked_schema *schema) {
     /* options */
     other.form = 2;
     ASK(GRAPHQL_CHECKED_OPTIONS, graphql_checked_open(schema, A_FIELD, 1, &other, &answer));
-    other.form = 0, other.size = 1;
-    ASK(GRAPHQL_CHECKED_OPTIONS, graphql_checked_open(schema, A_FIELD, 1, &other, &answer));
+    other.form = 0;
+    for (size_t i = 0; i < sizeof no_sizes / sizeof *no_sizes; i++) {
+        other.size = no_sizes[i];
+        ASK(GRAPHQL_CHECKED_OPTIONS, graphql_checked_open(schema, A_FIELD, 1, (const void *)placed(INDENT, (const char *)&other, sizeof other), &answer));
+    }
     later.known.size = sizeof later;
     ASK(GRAPHQL_CHECKED_OPTIONS, graphql_checked_open(schema, A_FIELD, 1, &later.known, &answer));
     /* nesting and stack */
@@ -148,7 +152,8 @@ static void not_opened(graphql_checked_schema *schema) {
     TELLS(GRAPHQL_CHECKED_REFUSED, "refused\n2:23: cannot find type `Missing` in this document\n", graphql_checked_open(schema, two, 2, &as_text, &answer));
     TELLS(GRAPHQL_CHECKED_REFUSED,
           "{\"path\":\"two\",\"line\":1,\"column\":24,\"end\":{\"line\":1,\"column\":31},\"offset\":23,\"length\":7,\"rule\":\"UndefinedDefinition\","
-          "\"message\":\"cannot find type `Missing` in this document\",\"related\":[],\"hint\":null,\"fields\":{\"name\":\"Missing\"}}\n",
+          "\"message\":\"cannot find type `Missing` in this document\",\"related\":[],"
+          "\"hint\":\"no type `Missing` in one, two; a schema of several files needs them all\",\"fields\":{\"name\":\"Missing\"}}\n",
           graphql_checked_open(schema, two, 2, &as_json, &answer));
     ASK(GRAPHQL_CHECKED_REFUSED, graphql_checked_open(schema, two, 2, &as_json, 0));
     two[0].length = two[1].length = 0;
@@ -583,15 +588,21 @@ static void forked(void) {
 
 static volatile sig_atomic_t found_busy, found_wrong;
 
+/* If a check finds the handle busy, so does each other call. */
 static void asks_in_handler(int unused) {
-    static const graphql_checked_text right = {"{ a }", 5, 0};
+    static const graphql_checked_text right = {"{ a }", 5, 0}, schema = FIELD;
     graphql_checked_status found = graphql_checked_check(&one_handle, &right, 0);
     (void)unused;
-    found_busy += found == GRAPHQL_CHECKED_BUSY;
     found_wrong += found != GRAPHQL_CHECKED_BUSY && found != GRAPHQL_CHECKED_ACCEPTED;
+    if (found != GRAPHQL_CHECKED_BUSY) return;
+    found_busy++;
+    found_wrong += graphql_checked_open(&one_handle, &schema, 1, 0, 0) != GRAPHQL_CHECKED_BUSY;
+    found_wrong += graphql_checked_schema_text(&one_handle, 0, 0) != GRAPHQL_CHECKED_BUSY;
+    found_wrong += graphql_checked_document_text(&one_handle, &right, 0, 0) != GRAPHQL_CHECKED_BUSY;
+    found_wrong += graphql_checked_close(&one_handle) != GRAPHQL_CHECKED_BUSY;
 }
 
-/* A handler that asks the handle that is asked. */
+/* A handler that calls for the handle that is asked. */
 static void signals(void) {
     struct sigaction action = {0};
     struct itimerval often = {{0, 500}, {0, 500}}, never = {{0, 0}, {0, 0}};

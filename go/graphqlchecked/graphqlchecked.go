@@ -138,8 +138,12 @@ func Open(texts ...Text) (*Schema, error) { return OpenWith(Options{}, texts...)
 
 // OpenWith opens as [Open] does, by these options.
 func OpenWith(options Options, texts ...Text) (*Schema, error) {
-	all := (*[1 << 20]C.graphql_checked_text)(C.calloc(C.size_t(len(texts)+1), C.sizeof_graphql_checked_text))
-	defer C.free(unsafe.Pointer(all))
+	first := C.calloc(C.size_t(len(texts)+1), C.sizeof_graphql_checked_text)
+	if first == nil {
+		return nil, Memory
+	}
+	defer C.free(first)
+	all := unsafe.Slice((*C.graphql_checked_text)(first), len(texts)+1)
 	for i, text := range texts {
 		all[i] = C.graphql_checked_text{bytes: (*C.char)(C.CBytes(text.Bytes)), length: C.size_t(len(text.Bytes)), path: cString(text.Path)}
 		defer C.free(unsafe.Pointer(all[i].bytes))
@@ -174,13 +178,18 @@ func pointer(bytes []byte) *C.char {
 	return (*C.char)(unsafe.Pointer(&bytes[0]))
 }
 
-// textOf is what was written, or why nothing was. The answer is copied: it lasts until the next call on its handle.
+// bytesOf are the bytes of an answer, in the library's memory until the next call on its handle.
+func bytesOf(answer C.graphql_checked_answer) []byte {
+	return unsafe.Slice((*byte)(unsafe.Pointer(answer.bytes)), int(answer.length))
+}
+
+// textOf is what was written, or why nothing was, with no part of the answer in it.
 func textOf(status C.graphql_checked_status, answer C.graphql_checked_answer) (string, error) {
 	switch status {
 	case C.GRAPHQL_CHECKED_ACCEPTED:
-		return C.GoStringN(answer.bytes, C.int(answer.length)), nil
+		return string(bytesOf(answer)), nil
 	case C.GRAPHQL_CHECKED_REFUSED:
-		faults, err := faultsOf(C.GoBytes(unsafe.Pointer(answer.bytes), C.int(answer.length)))
+		faults, err := faultsOf(bytesOf(answer))
 		if err != nil {
 			return "", err
 		}
@@ -220,6 +229,9 @@ func (s *Schema) Check(document Text) ([]Fault, error) {
 
 // Text is the canonical text of the schema, in lines that begin with the indent, of spaces and tabs, once for each level.
 func (s *Schema) Text(indent string) (string, error) {
+	if strings.IndexByte(indent, 0) >= 0 {
+		return "", Indent
+	}
 	prefix := C.CString(indent)
 	defer C.free(unsafe.Pointer(prefix))
 	s.mutex.Lock()
@@ -232,6 +244,9 @@ func (s *Schema) Text(indent string) (string, error) {
 // DocumentText is the canonical text of a document, as Text is that of the schema. The error is a [*RefusedError] where the
 // document is refused.
 func (s *Schema) DocumentText(document Text, indent string) (string, error) {
+	if strings.IndexByte(indent, 0) >= 0 {
+		return "", Indent
+	}
 	path, prefix := cString(document.Path), C.CString(indent)
 	defer C.free(unsafe.Pointer(path))
 	defer C.free(unsafe.Pointer(prefix))

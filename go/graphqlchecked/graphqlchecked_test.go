@@ -1,6 +1,7 @@
 package graphqlchecked
 
 import (
+	"context"
 	"errors"
 	"fmt"
 	"os"
@@ -62,8 +63,13 @@ func TestAccepted(t *testing.T) {
 	if _, err := schema.DocumentText(text("{c}"), " "); !errors.As(err, &refused) || refused.Faults[0].Rule != "UndefinedField" {
 		t.Error(err)
 	}
-	if _, err := schema.Text("-"); err != Indent {
-		t.Error(err)
+	for _, indent := range []string{"-", " \x00", "\x00"} {
+		if _, err := schema.Text(indent); err != Indent {
+			t.Error(err)
+		}
+		if _, err := schema.DocumentText(text("{a}"), indent); err != Indent {
+			t.Error(err)
+		}
 	}
 }
 
@@ -141,6 +147,39 @@ func TestGoroutines(t *testing.T) {
 	if _, err := pool.Check(text("{ a }")); err != Closed {
 		t.Error(err)
 	}
+}
+
+// A pool opens the texts that it was given, also where its caller has changed them since; and whoever waits for a handle waits no longer
+// than its context. The one handle is taken here, as a check takes it.
+func TestPoolKeepsTextsAndContexts(t *testing.T) {
+	bytes := []byte("type Query { a: Int }")
+	pool, err := NewPool(1, Options{}, Text{Bytes: bytes})
+	if err != nil {
+		t.Fatal(err)
+	}
+	copy(bytes, "type Query { b: Int }")
+	pool.slots <- struct{}{}
+	held, _ := pool.takeFree()
+	ctx, cancel := context.WithCancel(context.Background())
+	waited := make(chan error)
+	go func() {
+		_, err := pool.CheckContext(ctx, text("{ a }"))
+		waited <- err
+	}()
+	cancel()
+	if err := <-waited; err != context.Canceled {
+		t.Error(err)
+	}
+	<-pool.slots
+	if _, err := pool.CheckContext(ctx, text("{ a }")); err != context.Canceled {
+		t.Error(err)
+	}
+	// no handle is free, so one is opened
+	if faults, err := pool.Check(text("{ a }")); faults != nil || err != nil {
+		t.Error(faults, err)
+	}
+	held.Close()
+	pool.Close()
 }
 
 // Goroutines that close a pool at once: each of them comes back.

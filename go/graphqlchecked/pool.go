@@ -1,6 +1,7 @@
 package graphqlchecked
 
 import (
+	"context"
 	"runtime"
 	"sync"
 )
@@ -26,7 +27,16 @@ func NewPool(size int, options Options, texts ...Text) (*Pool, error) {
 	if err != nil {
 		return nil, err
 	}
-	return &Pool{texts: texts, options: options, slots: make(chan struct{}, size), free: []*Schema{first}}, nil
+	return &Pool{texts: copied(texts), options: options, slots: make(chan struct{}, size), free: []*Schema{first}}, nil
+}
+
+// copied are the texts with bytes of their own, which the caller may change.
+func copied(texts []Text) []Text {
+	own := make([]Text, len(texts))
+	for i, text := range texts {
+		own[i] = Text{text.Path, append([]byte(nil), text.Bytes...)}
+	}
+	return own
 }
 
 // take is a handle that is free, or a new one. While that is opened, the others go on.
@@ -62,7 +72,20 @@ func (p *Pool) give(schema *Schema) {
 
 // Check checks as [Schema.Check] does, by a handle that is free, and waits for one where none is.
 func (p *Pool) Check(document Text) ([]Fault, error) {
-	p.slots <- struct{}{}
+	return p.CheckContext(context.Background(), document)
+}
+
+// CheckContext checks as Check does, unless the context ends before a handle is free: then the error is the context's. A check that
+// has begun is not cut short.
+func (p *Pool) CheckContext(ctx context.Context, document Text) ([]Fault, error) {
+	if err := ctx.Err(); err != nil {
+		return nil, err
+	}
+	select {
+	case p.slots <- struct{}{}:
+	case <-ctx.Done():
+		return nil, ctx.Err()
+	}
 	defer func() { <-p.slots }()
 	schema, err := p.take()
 	if err != nil {

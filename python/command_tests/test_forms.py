@@ -1,5 +1,5 @@
 """The forms are those of `graphql-report`, whose runs are in examples/report/runs.txt: line for line, but for the last, how much was
-found, which JSON has as records; JSON has the severity, too. Left out are runs that cut what is printed, or name a file twice or one
+found, which JSON has as records, and but for that of the schema; JSON has the severity, too. Left out are runs that cut what is printed, or name a file twice or one
 that is not there."""
 
 import json
@@ -23,7 +23,7 @@ def runs() -> List[Tuple[str, List[str]]]:
         elif line and not line.startswith("# ") and found:
             found[-1][1].append(line)
     plain = [(command, wanted) for command, wanted in found if command.startswith("./graphql-report") and not LEFT_OUT.search(command.replace(" 2>/dev/null", ""))]
-    return [(command.replace(" 2>/dev/null", ""), [it for it in wanted if not re.match(r"\d+ (fault|document)s?\b|schema accepted|\[\d\]$|\{\"(document|summary)\":", it)]) for command, wanted in plain]
+    return [(command.replace(" 2>/dev/null", ""), [it for it in wanted if not re.match(r"\d+ (fault|document)s?\b|schema accepted|\[\d\]$|\{\"(document|schema|summary)\":", it)]) for command, wanted in plain]
 
 
 def as_told(line: str, form: str) -> str:

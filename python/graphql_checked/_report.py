@@ -96,14 +96,15 @@ class Report(Sequence[Fault]):
 
 
 class Paths:
-    """The paths of texts. The library is told their numbers in their place, so a path may be any string, or none."""
+    """The paths of texts. The library is told their numbers in their place, as `text 1`, so a path may be any string, or none."""
 
     def __init__(self, paths: Sequence[Optional[str]]) -> None:
         self.paths = paths
 
     def number(self, name: str) -> Optional[int]:
         """The number of the text that the library has under this name."""
-        return int(name) if name.isdigit() else None
+        word, _, number = name.rpartition(" ")
+        return int(number) if word == "text" and number.isdigit() else None
 
     def path(self, name: str) -> Optional[str]:
         """Its path."""

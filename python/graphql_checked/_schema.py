@@ -122,7 +122,7 @@ class Schema:
 
     def _open(self) -> None:
         """Opens the texts. They are named by their numbers, and the document by the one after."""
-        texts = [text_bytes(text, str(number)) for number, text in enumerate(self._texts, 1)]
+        texts = [text_bytes(text, f"text {number}") for number, text in enumerate(self._texts, 1)]
         options, answer, handle = Options(ctypes.sizeof(Options), *self._limits, 0), Answer(), Handle()
         call = self._library.functions.graphql_checked_open
         try:
@@ -181,7 +181,7 @@ class Schema:
         return Schema(self._texts, paths=self._paths, nesting=nesting, stack=stack, max_faults=max_faults, library=self._library)
 
     def _document(self, document: Text) -> TextBytes:
-        return text_bytes(_encoded(document, "a document"), str(len(self._texts) + 1))
+        return text_bytes(_encoded(document, "a document"), f"text {len(self._texts) + 1}")
 
     def _report(self, told: bytes, path: Optional[str]) -> Report:
         return Paths([*self._paths, path]).report(told)

@@ -325,7 +325,10 @@ class TestNames(unittest.TestCase):
                 case.schema.path, case.document.path = "schema", "document"
                 report = check(case.schema.plain, case.document.plain)
                 self.assertEqual([fault.rule for fault in report], case.told)
-                self.assertEqual([as_json(fault) for fault in report if fault.rule == case.rule], [case.object(message, types)])
+                wanted = case.object(message, types)
+                if wanted["hint"]:  # a hint names the texts as the library is told them
+                    wanted["hint"] = wanted["hint"].replace("schema.graphql", "text 1")
+                self.assertEqual([as_json(fault) for fault in report if fault.rule == case.rule], [wanted])
 
 
 def as_json(fault: Fault) -> Dict[str, Any]:

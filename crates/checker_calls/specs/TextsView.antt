@@ -1,5 +1,6 @@
 -- Private: leads to what `Checker::finish` answers. What contracts see of the schema texts that a checker was given.
-use Rattle.std.specs.Prelude.{◌≡◌, ℕ, ◌+◌, ◌<◌, ◌^◌, List, map, flat_map, string_bytes}
+use Rattle.std.specs.Prelude.{◌≡◌, ℕ, ◌+◌, ◌<◌, ◌^◌, List, map, flat_map}
+use Rattle.std.specs.Rc.{rc_str_bytes}
 use Rattle.graphql_names.specs.declared.span.FileId.{FileId}
 use Rattle.tree_definitions.specs.DefinitionTree.{document_tree}
 use Rattle.tree_definitions.specs.Sources.{sources_of}
@@ -16,7 +17,7 @@ terms_of s = record { nesting = s.nesting; first_text = s.first; first_extension
 
 -- the texts, in order
 abbrev pub texts_of : SchemaTexts → List SourceText
-texts_of s = map string_bytes s.texts.items
+texts_of s = map rc_str_bytes s.texts.items
 
 -- the trees that were kept
 abbrev pub trees_of : SchemaTexts → List Tree

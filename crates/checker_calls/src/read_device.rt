@@ -2,6 +2,7 @@
 
 ghost use Rattle.std.specs.Prelude.{◌≡◌, ◌≢◌, true, Err, OnOk, IfOk, IfErr, map, string_bytes};
 ghost use Rattle.std.specs.Io.KnownBytes.{Consumes, IsAtEnd};
+ghost use Rattle.std.specs.Rc.{rc_str_bytes};
 ghost use Rattle.graphql_names.specs.Device.{device_inner, device_failed};
 ghost use Rattle.checker_calls.specs.Devices.{IsTextOf, AreTextsOf, IsReadToEnd, AreReadToEnd};
 ghost use Rattle.checker_calls.specs.ReadFaults.{IsTextFault, numbered_fault, IsReadFault};
@@ -10,6 +11,7 @@ use crate::run_fault::RunFault;
 use graphql_names::Device;
 use std::alloc::{AllocError, Global};
 use std::io::Read;
+use std::rc::RcStr;
 
 /// Why a reader gives no text.
 #[derive(Clone, Copy, Debug, PartialEq, Eq)]
@@ -33,12 +35,9 @@ impl From<AllocError> for TextFault {
     }
 }
 
-/// The texts of the readers, in order. Each is read to its end, and decoded before the next is read.
-pub fn read_texts<R: Read>(
-    alloc: Global,
-    devices: &mut [Device<R>],
-) -> Result<Vec<String>, RunFault>
-    ensures texts { IfOk result (λ texts. AreTextsOf R.remaining devices.old (map string_bytes texts.items)) }
+/// The texts of the readers, in order, to be shared. Each is read to its end, and decoded before the next is read.
+pub fn read_texts<R: Read>(alloc: Global, devices: &mut [Device<R>]) -> Result<Vec<RcStr>, RunFault>
+    ensures texts { IfOk result (λ texts. AreTextsOf R.remaining devices.old (map rc_str_bytes texts.items)) }
     ensures end { OnOk result (AreReadToEnd R.remaining devices.new) }
     ensures fault { IfErr result (IsReadFault R.remaining devices.old devices.new) }
     ensures running { OnOk result (map device_failed devices.new ≡ map device_failed devices.old) }
@@ -46,7 +45,7 @@ pub fn read_texts<R: Read>(
     let mut texts = Vec::new(alloc);
     for i in 0..devices.len() {
         match read_text(alloc, &mut devices[i]) {
-            Ok(text) => texts.push(text)?,
+            Ok(text) => texts.push(RcStr::from_string(text)?)?,
             Err(fault) => return Err(numbered(fault, i + 1)),
         }
     }

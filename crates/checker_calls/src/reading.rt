@@ -1,6 +1,7 @@
 //! One text, read: its document, or why it has none.
 
 ghost use Rattle.std.specs.Prelude.{◌≡◌, ◌<◌, ◌∷◌, [], ℕ, length, IfOk, IfErr, OnOk};
+ghost use Rattle.std.specs.Rc.{rc_str_bytes};
 ghost use Rattle.tree_definitions.specs.DefinitionTree.{document_tree};
 ghost use Rattle.tree_definitions.specs.Sources.{sources_of};
 ghost use Rattle.verdict_definitions.specs.in_grammar.Faults as faults;
@@ -12,8 +13,9 @@ ghost use Rattle.checker_calls.specs.Unread.{IsUnread, TellsUnread};
 
 use graphql_names::{FileId, SourceSpan};
 use std::alloc::Global;
+use std::rc::RcStr;
 use tree_definitions::Document;
-use verdict_definitions::{Details, ReadFault, SyntaxFault, parse_document};
+use verdict_definitions::{Details, ReadFault, SyntaxFault, parse_shared_document};
 
 /// Why a text has no tree.
 #[derive(Drop)]
@@ -24,22 +26,22 @@ pub enum Unread {
     Fault { place: SourceSpan, details: Details },
 }
 
-/// Reads a text with this number, with at most `nesting` brackets open at once.
-pub fn read(alloc: Global, text: &str, file: FileId, nesting: usize) -> Result<Document, Unread>
-    ensures tree { IfOk result (λ d. ReadsText file.0 text.now (document_tree d)) }
-    ensures within { OnOk result (NestingBound nesting text.now → ⊥) }
-    ensures sources { IfOk result (λ d. sources_of d ≡ (file.0, unnamed_source text.now) ∷ []) }
-    ensures unread { IfErr result (IsUnread nesting file.0 text.now) }
+/// Reads a text with this number, with at most `nesting` brackets open at once. The document shares the text.
+pub fn read(alloc: Global, text: &RcStr, file: FileId, nesting: usize) -> Result<Document, Unread>
+    ensures tree { IfOk result (λ d. ReadsText file.0 (rc_str_bytes text.now) (document_tree d)) }
+    ensures within { OnOk result (NestingBound nesting (rc_str_bytes text.now) → ⊥) }
+    ensures sources { IfOk result (λ d. sources_of d ≡ (file.0, unnamed_source (rc_str_bytes text.now)) ∷ []) }
+    ensures unread { IfErr result (IsUnread nesting file.0 (rc_str_bytes text.now)) }
 {
-    match parse_document(alloc, text, file, nesting) {
+    match parse_shared_document(alloc, text, file, nesting) {
         Ok(document) => Ok(document),
         Err(fault) => Err(told_of(text, file, fault)),
     }
 }
 
 /// The answer for a text for which this fault is due.
-fn told_of(text: &str, file: FileId, fault: ReadFault) -> Unread
-    requires { (offset : ℕ) → fault ≡ Nesting offset → offset < length text.now }
+fn told_of(text: &RcStr, file: FileId, fault: ReadFault) -> Unread
+    requires { (offset : ℕ) → fault ≡ Nesting offset → offset < length (rc_str_bytes text.now) }
     ensures { TellsUnread file.0 (fault_view fault) result }
 {
     match fault {
@@ -65,8 +67,8 @@ fn syntax(file: FileId, fault: SyntaxFault) -> Unread
 
 /// One bracket too many is open, from this one on.
 // `text` is for the contract alone: the place is within it.
-fn nesting(text: &str, file: FileId, offset: usize) -> Unread
-    requires { offset < length text.now }
+fn nesting(text: &RcStr, file: FileId, offset: usize) -> Unread
+    requires { offset < length (rc_str_bytes text.now) }
     ensures { TellsUnread file.0 (faults.Nesting offset) result }
 {
     Unread::Fault {

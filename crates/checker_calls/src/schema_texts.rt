@@ -1,6 +1,7 @@
 //! The schema texts that a checker was given, and what reading them gave.
 
 ghost use Rattle.std.specs.Prelude.{◌≡◌, ◌≢◌, ◌++◌, ◌∷◌, [], ℕ, List, OnOk, OnErr};
+ghost use Rattle.std.specs.Rc.{rc_str_bytes};
 ghost use Rattle.tree_definitions.specs.DefinitionTree.{document_tree};
 ghost use Rattle.tree_definitions.specs.Sources.{sources_of};
 ghost use Rattle.verdict_definitions.specs.in_read.Reads.{NestingBound};
@@ -14,6 +15,7 @@ use crate::reading::{Unread, read};
 use graphql_names::{FileId, Files, Spent};
 use schema_components::Extensions;
 use std::alloc::{AllocError, Global};
+use std::rc::RcStr;
 use tree_definitions::Document;
 use verdict_definitions::{Details, DiagnosticList};
 
@@ -29,8 +31,8 @@ pub struct SchemaTexts {
     pub files: Files,
     /// The numbers of extensions, none of which is given yet.
     pub extensions: Extensions,
-    /// The texts.
-    pub texts: Vec<String>,
+    /// The texts. A document shares its text.
+    pub texts: Vec<RcStr>,
     /// The document of each text, in order, as long as each is read.
     pub documents: Vec<Document>,
     /// A fault of each text that is not read.
@@ -66,18 +68,30 @@ impl SchemaTexts {
         ensures kept { OnErr result (texts_of self.new ≡ texts_of self.old) }
         ensures reading { OnOk result (IsReadingOf (texts_of self.new) self.new) }
     {
-        let copy = String::from_str(self.alloc, text)?;
+        let shared = RcStr::from_str(self.alloc, text)?;
+        self.add_shared(&shared)
+    }
+
+    /// Adds a text that is shared, and not copied, as by [`SchemaTexts::add`].
+    pub fn add_shared(&mut self, text: &RcStr) -> Result<(), AllocError>
+        requires { IsReadingOf (texts_of self.old) self.old }
+        ensures terms { terms_of self.new ≡ terms_of self.old }
+        ensures texts { OnOk result (texts_of self.new ≡ texts_of self.old ++ rc_str_bytes text.now ∷ []) }
+        ensures kept { OnErr result (texts_of self.new ≡ texts_of self.old) }
+        ensures reading { OnOk result (IsReadingOf (texts_of self.new) self.new) }
+    {
+        let shared = text.clone()?;
         self.read_next(text)?;
-        self.texts.push(copy)?;
+        self.texts.push(shared)?;
         Ok(())
     }
 
     /// Reads the text that comes next, if a number is left for it.
-    fn read_next(&mut self, text: &str) -> Result<(), AllocError>
+    fn read_next(&mut self, text: &RcStr) -> Result<(), AllocError>
         requires { IsReadingOf (texts_of self.old) self.old }
         ensures terms { terms_of self.new ≡ terms_of self.old }
         ensures texts { self.new.texts ≡ self.old.texts }
-        ensures reading { OnOk result (IsReadingOf (texts_of self.old ++ text.now ∷ []) self.new) }
+        ensures reading { OnOk result (IsReadingOf (texts_of self.old ++ rc_str_bytes text.now ∷ []) self.new) }
     {
         match self.files.next() {
             Ok(file) => self.read_numbered(text, file),
@@ -86,11 +100,11 @@ impl SchemaTexts {
     }
 
     /// Reads the text with this number.
-    fn read_numbered(&mut self, text: &str, file: FileId) -> Result<(), AllocError>
+    fn read_numbered(&mut self, text: &RcStr, file: FileId) -> Result<(), AllocError>
         requires { IsBefore (texts_of self.old) file self.old }
         ensures terms { terms_of self.new ≡ terms_of self.old }
         ensures texts { self.new.texts ≡ self.old.texts }
-        ensures reading { OnOk result (IsReadingOf (texts_of self.old ++ text.now ∷ []) self.new) }
+        ensures reading { OnOk result (IsReadingOf (texts_of self.old ++ rc_str_bytes text.now ∷ []) self.new) }
     {
         match read(self.alloc, text, file, self.nesting) {
             Ok(document) => self.keep(document, file),

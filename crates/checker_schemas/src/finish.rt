@@ -51,6 +51,8 @@ pub fn schema_of_texts(texts: SchemaTexts) -> Result<JudgedTexts, Refusal>
         return Err(Refusal::Faults(texts.unread));
     }
     let builder = filled(texts.alloc, texts.extensions, &texts.documents)?;
+    // The builder shares their definitions, and gives them back once they are folded.
+    drop(texts.documents);
     let (schema, written) = judge(texts.alloc, builder)?;
     Ok(JudgedTexts {
         nesting: texts.nesting,

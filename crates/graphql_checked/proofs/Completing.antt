@@ -2,7 +2,9 @@
 use Rattle.std.proofs.Common.{inl, inr, ◌≡◌, ℕ, zero, suc, List, [], ◌∷◌, length, map, get_or, Option, ap, sym, subst, refl, ◌∙◌, arith}
 use Rattle.std.proofs.lemmas.List.{length-map}
 use Rattle.std.proofs.lemmas.Str.{IsUtf8-string_bytes}
-use Rattle.std.specs.Prelude.{Err, Ok, IfSome, IsUtf8, String, string_bytes}
+use Rattle.std.specs.Prelude.{Err, Ok, IfSome, IsUtf8}
+use Rattle.std.specs.Rc.{rc_str_bytes}
+use Rattle.std.specs.declared.rc.RcStr.{RcStr}
 use Rattle.std.specs.List.{All, AllZip}
 use Rattle.graphql_names.specs.declared.device.Device.{Device}
 use Rattle.graphql_names.specs.Device.{device_failed}
@@ -77,10 +79,10 @@ certain_here of_schema of_document terms schemas document texts text are is tell
     subst (λ t. IsCertain terms t text) (sym (texts_told of_schema schemas texts tell.texts are tell.schemas_tell))
     (subst (IsCertain terms tell.texts) (sym (text_told of_document document text tell.text is tell.document_tells)) tell.certain)
 
--- the texts of strings are UTF-8
-pub all_utf8 : {Z : Type 0} (texts : List (String Z)) → All IsUtf8 (map string_bytes texts)
+-- the texts that are shared are UTF-8
+pub all_utf8 : {Z : Type 0} (texts : List (RcStr Z)) → All IsUtf8 (map rc_str_bytes texts)
 all_utf8 [] k d h = absurd (omega (arith, h))
-all_utf8 (text ∷ texts) zero d h = IsUtf8-string_bytes text
+all_utf8 (text ∷ texts) zero d h = IsUtf8-string_bytes text.text.value
 all_utf8 (text ∷ texts) (suc k) d h = all_utf8 texts k d (omega (arith, h))
 
 -- ---- a writer that fails

@@ -35,12 +35,12 @@ abbrev given : Terms → List SourceText → CheckerValue
 given terms texts = record { terms = terms; texts = texts; failed = false }
 
 -- one more of the texts is added
-pub texts_more : {T : Type 0} (f : T → List ℕ) (xs : List T) (i : ℕ) (terms : Terms) (x : T) (text : List ℕ) (old new : CheckerValue) → i < length xs → x ≡ get_or xs i x → text ≡ f x
+pub texts_more : {T : Type 0} (f : T → List ℕ) (xs : List T) (i : ℕ) (terms : Terms) (x : T) (text : List ℕ) (old new : CheckerValue) → i < length xs → text ≡ f (get_or xs i x)
     → old ≡ record { terms = terms; texts = map f (take i xs); failed = false } → new ≡ record old { texts = old.texts ++ text ∷ [] }
     → new ≡ record { terms = terms; texts = map f (take (i + 1) xs); failed = false }
-texts_more f xs i terms x text old new inside is lent before added =
+texts_more f xs i terms x text old new inside is before added =
     added ∙ ap {A = CheckerValue} {B = CheckerValue} (λ c. record c { texts = c.texts ++ text ∷ [] }) before
-    ∙ ap (given terms) (ap (λ t. map f (take i xs) ++ t ∷ []) (lent ∙ ap f is) ∙ sym (map_more f xs i x inside))
+    ∙ ap (given terms) (ap (λ t. map f (take i xs) ++ t ∷ []) is ∙ sym (map_more f xs i x inside))
 
 -- all are
 pub texts_all : {T : Type 0} (f : T → List ℕ) (xs : List T) (i : ℕ) (terms : Terms) (checker : CheckerValue) → length xs ≤ i → checker ≡ record { terms = terms; texts = map f (take i xs); failed = false }

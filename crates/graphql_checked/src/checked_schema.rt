@@ -34,6 +34,7 @@ use graphql_validation::{
 };
 use std::alloc::{AllocError, Global};
 use std::marker::Model;
+use std::rc::RcStr;
 use tree_definitions::Document;
 
 /// A schema of texts that are accepted: they are read, every rule holds of them, and no bound on brackets or numbers is
@@ -145,7 +146,8 @@ fn read_document(schema: &CheckedSchema, text: &str) -> Result<Document, Refusal
     if schema.number == u64::MAX {
         return Err(only(schema.alloc, None, Details::Spent));
     }
-    match read(schema.alloc, text, FileId(schema.number), schema.nesting) {
+    let shared = RcStr::from_str(schema.alloc, text)?;
+    match read(schema.alloc, &shared, FileId(schema.number), schema.nesting) {
         Ok(document) => Ok(document),
         Err(Unread::Fault { place, details }) => Err(only(schema.alloc, Some(place), details)),
         Err(Unread::Memory) => Err(Refusal::Memory),

@@ -1,6 +1,7 @@
 //! The checker of schema texts.
 
 ghost use Rattle.std.specs.Prelude.{◌≡◌, ◌++◌, ◌∷◌, [], true, false, OnOk, IfOk, IfErr};
+ghost use Rattle.std.specs.Rc.{rc_str_bytes};
 ghost use Rattle.book_validity.specs.in_verdict_definitions.Judge.{AreSchemasCertain};
 ghost use Rattle.graphql_checked.specs.CheckedView.{schema_value};
 ghost use Rattle.checker_schemas.specs.CheckedSchemaValue.{IsCheckedSchemaOf};
@@ -13,8 +14,9 @@ use checker_schemas::schema_of_texts;
 use graphql_names::Files;
 use graphql_validation::{PossibleTypes, SchemaInputs};
 use schema_components::Extensions;
-use std::alloc::Global;
+use std::alloc::{AllocError, Global};
 use std::marker::Model;
+use std::rc::RcStr;
 
 /// Limits on texts.
 #[derive(Clone, Copy, Debug, PartialEq, Eq)]
@@ -84,11 +86,22 @@ impl Checker {
         }
         match self.texts.add(text) {
             Ok(()) => Ok(()),
-            Err(_) => {
-                // What was read may no longer be that of the texts, so the checker stops here.
-                self.failed = true;
-                Err(Refusal::Memory)
-            }
+            Err(_) => Err(stop(&mut self.failed)),
+        }
+    }
+
+    /// Adds a schema text that is shared, and not copied, as by [`Checker::add_schema`].
+    pub(crate) fn add_shared(&mut self, text: &RcStr) -> Result<(), Refusal>
+        ensures running { OnOk result (self.old.failed ≡ false) }
+        ensures added { OnOk result (self.new ≡ record self.old { texts = self.old.texts ++ rc_str_bytes text.now ∷ [] }) }
+        ensures refused { IfErr result (IsCheckerAddRefusal self.old self.new) }
+    {
+        if self.failed {
+            return Err(Refusal::Failed);
+        }
+        match self.texts.add_shared(text) {
+            Ok(()) => Ok(()),
+            Err(AllocError) => Err(stop(&mut self.failed)),
         }
     }
 
@@ -134,4 +147,14 @@ impl Checker {
             Err(refusal) => Err(refusal),
         }
     }
+}
+
+/// Notes that a checker has failed, as memory ran out: what it has read may no longer be that of the texts.
+// It takes the flag and not the checker, of whose texts nothing is known here.
+fn stop(failed: &mut bool) -> Refusal
+    ensures failed { failed.new ≡ true }
+    ensures refusal { result ≡ Memory }
+{
+    *failed = true;
+    Refusal::Memory
 }

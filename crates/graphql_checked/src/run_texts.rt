@@ -1,6 +1,7 @@
 //! Reads texts, judges them, and writes the answer.
 
-ghost use Rattle.std.specs.Prelude.{◌≡◌, false, OnOk, IfOk, IfErr, map, string_bytes};
+ghost use Rattle.std.specs.Prelude.{◌≡◌, false, OnOk, IfOk, IfErr, map};
+ghost use Rattle.std.specs.Rc.{rc_str_bytes};
 ghost use Rattle.graphql_names.specs.Device.{device_failed};
 ghost use Rattle.checker_calls.specs.Devices.{HaveNotFailed};
 ghost use Rattle.checker_calls.specs.Layouts.{prefix_of};
@@ -15,7 +16,7 @@ ghost use Rattle.graphql_checked.specs.Verdicts.{first_terms};
 use crate::checked_document::CheckedDocument;
 use crate::checked_schema::CheckedSchema;
 use crate::checker::Limits;
-use crate::verdict::schema_of;
+use crate::verdict::schema_of_shared;
 use checker_calls::{
     Layout, Outcome, Parts, RunFault, accepted, numbered, put, read_text, read_texts,
     refusal_answer,
@@ -24,14 +25,14 @@ use graphql_names::Device;
 use std::alloc::{AllocError, Global};
 use std::io::{Read, Write};
 use std::mem::forget;
+use std::rc::RcStr;
 
 /// Reads the schema texts and then the document to their ends, judges them, makes the whole answer, and then writes it.
 ///
 /// If the schema is refused, the document is read but not judged. After every fault but [`RunFault::Writer`] nothing is
 /// written. If anything is written, each reader was read to its end.
 ///
-/// It is for a process that ends then: of what was read, the texts of the schema alone are given back. [`CheckedSchema`] gives
-/// all back.
+/// It is for a process that ends then: an accepted schema and document are not given back. [`CheckedSchema`] gives all back.
 pub fn run<R: Read, D: Read, W: Write>(
     alloc: Global,
     schemas: &mut [Device<R>],
@@ -67,18 +68,16 @@ pub fn run<R: Read, D: Read, W: Write>(
 /// The outcome for the texts, and the bytes that go with it.
 fn judge(
     alloc: Global,
-    schemas: Vec<String>,
+    schemas: Vec<RcStr>,
     document: &str,
     limits: Limits,
     layout: Layout<'_>,
 ) -> Result<(Outcome, Parts), RunFault>
-    ensures answer { IsAnswerTo (prefix_of layout.entry) (first_terms limits.nesting) (map string_bytes schemas.items) document.now result }
-    ensures complete { IsCertain (first_terms limits.nesting) (map string_bytes schemas.items) document.now → AcceptsOrFails result }
+    ensures answer { IsAnswerTo (prefix_of layout.entry) (first_terms limits.nesting) (map rc_str_bytes schemas.items) document.now result }
+    ensures complete { IsCertain (first_terms limits.nesting) (map rc_str_bytes schemas.items) document.now → AcceptsOrFails result }
 {
-    match schema_of(alloc, &schemas, limits) {
+    match schema_of_shared(alloc, &schemas, limits) {
         Ok(schema) => {
-            // The schema has a copy of the texts, which are long.
-            drop(schemas);
             let answer = judge_document(alloc, &schema, document, layout);
             forget(schema);
             answer
@@ -98,7 +97,11 @@ fn judge_document(
     ensures complete { (terms : _) (schemas : _) → IsCheckedSchemaOf terms schemas (schema_value schema.now) → IsCertain terms schemas document.now → AcceptsOrFails result }
 {
     match schema.check(document) {
-        Ok(checked) => Ok((Outcome::Accepted, accepted_answer(alloc, &checked, layout)?)),
+        Ok(checked) => {
+            let bytes = accepted_answer(alloc, &checked, layout)?;
+            forget(checked);
+            Ok((Outcome::Accepted, bytes))
+        }
         Err(refusal) => refusal_answer(alloc, refusal),
     }
 }

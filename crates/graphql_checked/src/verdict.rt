@@ -1,6 +1,7 @@
 //! The verdict on whole texts.
 
 ghost use Rattle.std.specs.Prelude.{◌≡◌, ◌⊎◌, Ok, Err, map, IfOk, IfErr};
+ghost use Rattle.std.specs.Rc.{rc_str_bytes};
 ghost use Rattle.book_validity.specs.in_verdict_definitions.Judge.{AreSchemasCertain, IsCertain};
 ghost use Rattle.graphql_checked.specs.CheckedView.{schema_value};
 ghost use Rattle.checker_schemas.specs.CheckedSchemaValue.{IsCheckedSchemaOf};
@@ -14,7 +15,7 @@ use crate::checked_schema::CheckedSchema;
 use crate::checker::{Checker, Limits};
 use checker_calls::{CheckError, Refusal, Verdict, verdict_of};
 use std::alloc::Global;
-use std::convert::AsStr;
+use std::rc::RcStr;
 
 /// Judges schema texts and a document over them. A refused schema leaves the document unread.
 pub fn check_texts(
@@ -38,19 +39,33 @@ pub fn check_texts(
 }
 
 /// The schema of the texts, if they are accepted, for one document.
-pub(crate) fn schema_of<T: AsStr>(
-    alloc: Global,
-    texts: &[T],
-    limits: Limits,
-) -> Result<CheckedSchema, Refusal>
-    ensures schema { IfOk result (λ s. IsCheckedSchemaOf (first_terms limits.nesting) (map T.text texts.now) (schema_value s)) }
-    ensures refused { IfErr result (RefusalOfSchemas (first_terms limits.nesting) (map T.text texts.now)) }
-    ensures complete { IfErr result (λ r. AreSchemasCertain (first_terms limits.nesting) (map T.text texts.now) → r ≡ refusal.Memory) }
+fn schema_of(alloc: Global, texts: &[&str], limits: Limits) -> Result<CheckedSchema, Refusal>
+    ensures schema { IfOk result (λ s. IsCheckedSchemaOf (first_terms limits.nesting) (map (λ t. t.now) texts.now) (schema_value s)) }
+    ensures refused { IfErr result (RefusalOfSchemas (first_terms limits.nesting) (map (λ t. t.now) texts.now)) }
+    ensures complete { IfErr result (λ r. AreSchemasCertain (first_terms limits.nesting) (map (λ t. t.now) texts.now) → r ≡ refusal.Memory) }
 {
     let mut checker = Checker::new(alloc, limits);
     checker.is_for_one = true;
     for text in texts {
-        checker.add_schema(text.as_str())?;
+        checker.add_schema(text)?;
+    }
+    checker.finish()
+}
+
+/// The schema of texts that are shared, and not copied, if they are accepted, for one document.
+pub(crate) fn schema_of_shared(
+    alloc: Global,
+    texts: &[RcStr],
+    limits: Limits,
+) -> Result<CheckedSchema, Refusal>
+    ensures schema { IfOk result (λ s. IsCheckedSchemaOf (first_terms limits.nesting) (map rc_str_bytes texts.now) (schema_value s)) }
+    ensures refused { IfErr result (RefusalOfSchemas (first_terms limits.nesting) (map rc_str_bytes texts.now)) }
+    ensures complete { IfErr result (λ r. AreSchemasCertain (first_terms limits.nesting) (map rc_str_bytes texts.now) → r ≡ refusal.Memory) }
+{
+    let mut checker = Checker::new(alloc, limits);
+    checker.is_for_one = true;
+    for text in texts {
+        checker.add_shared(text)?;
     }
     checker.finish()
 }

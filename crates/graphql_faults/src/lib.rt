@@ -39,4 +39,4 @@ pub use once::each_once;
 pub use told::Told;
 
 // Re-exported from the crates below, for those above.
-pub use graphql_read::{ReadFault, SyntaxFault, parse_document};
+pub use graphql_read::{ReadFault, SyntaxFault, parse_shared_document};

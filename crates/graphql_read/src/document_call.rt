@@ -98,7 +98,27 @@ pub fn parse_document(
     ensures bound { KeepsToBound nesting text.now result }
 {
     let shared = RcStr::from_str(alloc, text)?;
-    let definitions = parse_definitions(alloc, &shared, file, nesting)?;
+    parse_shared_document(alloc, &shared, file, nesting)
+}
+
+/// The document that is written in a text that is shared, as by [`parse_document`]. The text is not copied: the sources share
+/// it, and names are parts of it.
+pub fn parse_shared_document(
+    alloc: Global,
+    text: &RcStr,
+    file: FileId,
+    nesting: usize,
+) -> Result<Document, ReadFault>
+    ensures found { IfOk result (λ d. ReadsWithin (Derives (in_file file)) nesting (rc_str_bytes text.now) (document_tree d)) }
+    ensures sound { IfOk result (λ d. IsSound file.0 (document_tree d)) }
+    ensures sources { IfOk result (λ d. sources_of d ≡ (file.0, unnamed_source (rc_str_bytes text.now)) ∷ []) }
+    ensures only { IsEachTreeUnlessMemory document_tree (Derives (in_file file)) nesting (rc_str_bytes text.now) result }
+    ensures fault { IfErr result (λ e. IsDue (Derives (in_file file)) nesting (rc_str_bytes text.now) (fault_view e)) }
+    ensures within { IfErr result (λ e. LiesIn (rc_str_bytes text.now) (fault_view e)) }
+    ensures bound { KeepsToBound nesting (rc_str_bytes text.now) result }
+{
+    let definitions = parse_definitions(alloc, text, file, nesting)?;
+    let shared = text.clone()?;
     let sources = sources(alloc, shared, file)?;
     Ok(Document {
         sources,

@@ -24,7 +24,7 @@ mod finish;
 mod selections_call;
 mod type_call;
 
-pub use document_call::parse_document;
+pub use document_call::{parse_document, parse_shared_document};
 pub use fault::{ReadFault, SyntaxFault, SyntaxFaultKind};
 pub use read_tokens::{NextToken, Token, TokenKind, next_token};
 pub use selections_call::parse_selections;

@@ -2,7 +2,7 @@
 use Rattle.std.proofs.Common.{◌≡◌, ◌<◌, ◌+◌, ℕ, true, List, [], ◌∷◌, ◌++◌, map, take, drop, append-nil, sym, ◌∙◌, ap, refl}
 use Rattle.std.specs.Prelude.{Some}
 use Rattle.std.proofs.lemmas.Option.{none-some}
-use Rattle.std.proofs.lemmas.List.{map-append}
+use Rattle.std.proofs.lemmas.List.{map-append, append_assoc}
 use Rattle.graphql_names.specs.Placed.{Place}
 use Rattle.graphql_names.specs.declared.span.SourceSpan.{SourceSpan}
 use Rattle.graphql_faults.specs.DetailsTree.{DetailsTree, Syntax, Nesting, Spent, SchemaBuild, DocumentBuild, Data, RecursionLimitError}
@@ -11,7 +11,7 @@ use Rattle.report_forms.specs.Noted.{others, AreRelated}
 use Rattle.report_forms.specs.declared.entry.Related.{Related}
 use Rattle.report_forms.specs.declared.noted.Noted.{Noted}
 use Rattle.report_forms.specs.declared.source.Source.{Source}
-use Rattle.graphql_report.specs.FoundPlaces.{AddsFound, Fits, FitsIn, is_bracket, named_again}
+use Rattle.graphql_report.specs.FoundPlaces.{AddsFound, AreFound, Fits, FitsIn, is_bracket, named_again}
 use Rattle.graphql_report.specs.Reports.{HasPlaces}
 use Rattle.graphql_report.specs.ToldPlaces.{plain, places_of, AddsOperation}
 
@@ -38,6 +38,20 @@ finds_one sources own span details old new n at fits e = record {
   found = (Some span, n.words.now) ∷ [];
   adds = ap (map plain) e ∙ map-append plain old (n ∷ []) ∙ (λ i. map plain old ++ (at i, n.words.now) ∷ []);
   each = (fits, tt);
+}
+
+found_append : (sources : List Source) (own : Place) (details : DetailsTree Place (List Place)) (fs gs : List (Place × List ℕ)) → AreFound sources own details fs
+    → AreFound sources own details gs → AreFound sources own details (fs ++ gs)
+found_append sources own details [] gs a b = b
+found_append sources own details (f ∷ fs) gs a b = (a.0, found_append sources own details fs gs a.1 b)
+
+-- one after another
+pub finds_both : (sources : List Source) (own : Place) (details : DetailsTree Place (List Place)) (old new last : List Noted) → AddsFound sources own details old new
+    → AddsFound sources own details new last → AddsFound sources own details old last
+finds_both sources own details old new last a b = record {
+  found = a.found ++ b.found;
+  adds = b.adds ∙ ap (λ l. l ++ b.found) a.adds ∙ append_assoc (map plain old) a.found b.found;
+  each = found_append sources own details a.found b.found a.each b.each;
 }
 
 pub with_found : (sources : List Source) (own : Place) (details : DetailsTree Place (List Place)) (first all : List Noted) (places related : List Related)

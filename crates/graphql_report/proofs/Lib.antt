@@ -3,3 +3,4 @@ pub mod Reporting
 pub mod InOperations
 pub mod Finding
 pub mod Taking
+pub mod Offering

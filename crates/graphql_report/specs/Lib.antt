@@ -2,3 +2,4 @@ pub mod ToldPlaces
 pub mod FoundPlaces
 pub mod Taken
 pub mod Reports
+pub mod Offered

@@ -1,5 +1,8 @@
 //! Hints: names that may be meant, what is at the place where a text is not read, and what to do.
 
+ghost use Rattle.std.specs.Prelude.{IfOk, option_map, string_bytes};
+ghost use Rattle.graphql_report.specs.Offered.{names_of, Offers};
+
 use crate::found::named_again;
 use crate::schema_hints::schema_hint;
 use crate::syntax_hints::syntax_hint;
@@ -17,6 +20,8 @@ use std::alloc::{AllocError, Global};
 const FAULTS: usize = 1_000;
 /// How many faults of syntax say what the grammar takes there.
 const SYNTAX: usize = 20;
+/// How many paths are named.
+const PATHS: usize = 5;
 /// How many bytes of names may be compared for each byte of the texts: so all their names can be compared at least this often.
 const BYTES: usize = 16;
 /// Added to the length of the texts, for the names of built-in definitions.
@@ -94,11 +99,12 @@ impl<'a> Hints<'a> {
         })
     }
 
-    /// The first place of the name that a fault tells to be there twice, apart from the fault's own place.
+    /// The first place of the name that a fault tells to be there twice, within the fault's own place or apart from it.
     pub(crate) fn first_named(
         &mut self,
         own: SourceSpan,
         details: &Details,
+        is_within: bool,
     ) -> Option<TextName<'a>> {
         if self.bytes == 0 {
             return None;
@@ -111,7 +117,8 @@ impl<'a> Hints<'a> {
             let is_own = one.file == own.file_id
                 && own.offset <= one.start
                 && one.start - own.offset < own.length;
-            if one.kind == kind && one.name == name && (of.is_empty() || one.of == of) && !is_own {
+            let is_same = one.kind == kind && one.name == name && (of.is_empty() || one.of == of);
+            if is_same && is_own == is_within {
                 found = Some(*one);
                 break;
             }
@@ -124,21 +131,17 @@ impl<'a> Hints<'a> {
     fn what_to_do(
         &mut self,
         alloc: Global,
-        files: usize,
+        sources: &[Source<'_>],
         place: Option<SourceSpan>,
         details: &Details,
     ) -> Result<Option<String>, AllocError> {
-        let words = match (details, place) {
-            (Details::Data(DiagnosticData::QueryRootOperationType), _) if self.has_schema =>
-                "`schema { .. }` does not name the query root",
-            (Details::Data(DiagnosticData::QueryRootOperationType), _) => {
-                let noun = if files == 1 { "file" } else { "files" };
-                return Ok(Some(format!(in alloc;
-                    "no type `Query` and no `schema {{ query: .. }}` in {files} {noun}; a schema of several files needs them all"
-                )?));
+        match (details, place) {
+            (Details::Data(DiagnosticData::QueryRootOperationType), _) if !self.has_schema => {
+                let missing = "type `Query` and no `schema { query: .. }`";
+                Ok(Some(missing_words(alloc, missing, sources)?))
             }
             (Details::SchemaBuild(FoldingError::TypeDefinitionCollision { name }), Some(own)) => {
-                let Some(TextName { of, .. }) = self.first_named(own, details) else {
+                let Some(TextName { of, .. }) = self.first_named(own, details, false) else {
                     return Ok(None);
                 };
                 let rest = match of {
@@ -146,21 +149,70 @@ impl<'a> Hints<'a> {
                     "scalar" => "@..",
                     _ => "{ .. }",
                 };
-                return Ok(Some(format!(in alloc; "`extend {of} {name} {rest}` adds to it")?));
+                Ok(Some(format!(in alloc; "`extend {of} {name} {rest}` adds to it")?))
             }
-            (Details::Data(DiagnosticData::UndefinedFragment { .. }), _) if self.has_import =>
-                "an `#import` is a comment here: the text must have the fragment itself",
-            (Details::DocumentBuild(BuildError::TypeSystemDefinition), _) =>
-                "this text has type definitions: it is of a schema",
-            (Details::SchemaBuild(FoldingError::ExecutableDefinition), _) =>
-                "operations and fragments go into a document",
-            (Details::Nesting, _) => "the nesting limit can be raised (--nesting)",
-            (Details::RecursionLimitError, Some(_)) => "fields may be nested 128 levels deep",
-            (Details::RecursionLimitError, None) =>
-                "selections may be nested 500 levels deep, those of fragments counted",
-            _ => return Ok(None),
-        };
-        Ok(Some(String::from_str(alloc, words)?))
+            (Details::Data(DiagnosticData::UndefinedFragment { .. }), _) if !self.has_import => Ok(
+                None,
+            ),
+            _ => match fixed_words(details, place.is_some()) {
+                Some(words) => Ok(Some(String::from_str(alloc, words)?)),
+                None => Ok(None),
+            },
+        }
+    }
+}
+
+/// What to do, in words that are always the same: about a query root that `schema` does not name, a fragment that is imported, a
+/// text of the wrong kind, a bound that is passed, and what is defined twice.
+fn fixed_words(details: &Details, has_place: bool) -> Option<&'static str> {
+    match details {
+        Details::Nesting => Some("the nesting limit can be raised (--nesting)"),
+        Details::RecursionLimitError if has_place => Some("fields may be nested 128 levels deep"),
+        Details::RecursionLimitError => Some(
+            "selections may be nested 500 levels deep, those of fragments counted",
+        ),
+        Details::Data(DiagnosticData::QueryRootOperationType) => Some(
+            "`schema { .. }` does not name the query root",
+        ),
+        Details::Data(DiagnosticData::UndefinedFragment { .. }) => Some(
+            "an `#import` is a comment here: the text must have the fragment itself",
+        ),
+        Details::Data(DiagnosticData::DeeplyNestedType { describe_type, .. }) => Some(
+            match *describe_type {
+                "fragment" => "at most 100 fragments may be spread one in another",
+                _ => "at most 32 definitions may be nested one in another",
+            },
+        ),
+        Details::DocumentBuild(BuildError::TypeSystemDefinition) => Some(
+            "type definitions are of a schema: give this text as one of its own",
+        ),
+        Details::DocumentBuild(
+            BuildError::OperationNameCollision { .. } | BuildError::FragmentNameCollision { .. },
+        ) => Some("give one of the two another name"),
+        Details::SchemaBuild(error) => words_of_folding(error),
+        _ => None,
+    }
+}
+
+/// What to do about a text of the wrong kind, or what is defined twice, in a schema.
+fn words_of_folding(error: &FoldingError) -> Option<&'static str> {
+    match error {
+        FoldingError::ExecutableDefinition => Some(
+            "operations and fragments are of a document: give this text as one",
+        ),
+        FoldingError::SchemaDefinitionCollision => Some("`extend schema { .. }` adds to it"),
+        FoldingError::BuiltInScalarTypeRedefinition { .. } => Some(
+            "it is built in: delete this definition",
+        ),
+        FoldingError::DirectiveDefinitionCollision { .. }
+        | FoldingError::DuplicateImplementsInterfaceInObject { .. }
+        | FoldingError::DuplicateImplementsInterfaceInInterface { .. }
+        | FoldingError::ObjectFieldNameCollision { .. }
+        | FoldingError::InterfaceFieldNameCollision { .. }
+        | FoldingError::EnumValueNameCollision { .. }
+        | FoldingError::UnionMemberNameCollision { .. }
+        | FoldingError::InputFieldNameCollision { .. } => Some("delete one of the two"),
+        _ => None,
     }
 }
 
@@ -177,6 +229,10 @@ pub(crate) fn hint_of(
         return Ok(None);
     }
     hints.faults -= 1;
+    if is_beside_mark(sources, place) {
+        let words = "U+FEFF (zero width no-break space) is beside it: delete that";
+        return Ok(Some(String::from_str(alloc, words)?));
+    }
     if let Details::Syntax(_) = details
         && let Some(span) = place
         && let Some(source) = source_at(sources, span)
@@ -185,7 +241,7 @@ pub(crate) fn hint_of(
         hints.syntax = hints.syntax.saturating_sub(1);
         return syntax_hint(alloc, source.lines.text(), span, tells_forms);
     }
-    if let Some(words) = hints.what_to_do(alloc, sources.len(), place, details)? {
+    if let Some(words) = hints.what_to_do(alloc, sources, place, details)? {
         return Ok(Some(words));
     }
     if let Some(words) = near_name(
@@ -197,10 +253,56 @@ pub(crate) fn hint_of(
     )? {
         return Ok(Some(words));
     }
-    match schema {
-        None => Ok(None),
-        Some(schema) => schema_hint(alloc, &mut hints.bytes, schema, details),
+    match (schema, details) {
+        (Some(schema), _) => schema_hint(alloc, &mut hints.bytes, schema, details),
+        (
+            None,
+            Details::Data(DiagnosticData::UndefinedDefinition { name })
+            | Details::SchemaBuild(FoldingError::OrphanTypeExtension { name }),
+        ) => {
+            let missing = format!(in alloc; "type `{name}`")?;
+            Ok(Some(missing_words(alloc, &missing, sources)?))
+        }
+        _ => Ok(None),
     }
+}
+
+/// Whether U+FEFF, which is not seen, ends a name at the place or begins one: anywhere but at the beginning of a text.
+fn is_beside_mark(sources: &[Source<'_>], place: Option<SourceSpan>) -> bool {
+    let Some(span) = place else {
+        return false;
+    };
+    let Some(source) = source_at(sources, span) else {
+        return false;
+    };
+    let (head, rest) = source
+        .lines
+        .text()
+        .split_at_checked(span.offset)
+        .unwrap_or(("", ""));
+    let (_, behind) = rest.split_at_checked(span.length).unwrap_or(("", ""));
+    behind.starts_with('\u{feff}') || head.len() > 3 && head.ends_with('\u{feff}')
+}
+
+/// Words for what is in none of these texts of a schema.
+fn missing_words(
+    alloc: Global,
+    missing: &str,
+    sources: &[Source<'_>],
+) -> Result<String, AllocError> {
+    let mut words = format!(in alloc; "no {missing} in ")?;
+    let (named, others) = sources.split_at(sources.len().min(PATHS));
+    let mut joint = "";
+    for source in named {
+        let path = source.path;
+        write!(words, "{joint}{path}")?;
+        joint = ", ";
+    }
+    if !others.is_empty() {
+        write!(words, " and {} more", others.len())?;
+    }
+    words.push_str("; a schema of several files needs them all")?;
+    Ok(words)
 }
 
 /// Of which kind, and of which type, the names are among which the one that a fault tells may be meant, and that one: a variable or a
@@ -246,13 +348,16 @@ fn sought(details: &Details, is_of_document: bool) -> Option<(NameKind, &str, &N
 }
 
 /// The closest of the names that may be meant.
+#[tactic(auto, using(crate::proofs::Offering::seen_more, crate::proofs::Offering::offers_seen))]
 fn near_name(
     alloc: Global,
     names: &[TextName<'_>],
     left: &mut usize,
     is_of_document: bool,
     details: &Details,
-) -> Result<Option<String>, AllocError> {
+) -> Result<Option<String>, AllocError>
+    ensures { IfOk result (λ words. Offers (names_of names.now) (option_map string_bytes words)) }
+{
     let Some((kind, of, given)) = sought(details, is_of_document) else {
         return Ok(None);
     };

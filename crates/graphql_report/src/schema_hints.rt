@@ -3,13 +3,17 @@
 use fault_data::DiagnosticData;
 use fault_document_errors::BuildError;
 use graphql_faults::Details;
-use graphql_names::Name;
+use graphql_names::{Name, Node};
 use graphql_schema::{ExtendedType, Schema};
 use indexmap::IndexMap;
 use report_forms::Closest;
 use schema_coordinates::SchemaCoordinate;
 use std::alloc::{AllocError, Global};
+use tree_directives::InputValueDefinition;
 use tree_literals::Value;
+
+/// How many arguments are named.
+const NAMED: usize = 5;
 
 /// An inline fragment, a type, a field, a value of an enum, a field of an input object, an argument or a directive.
 pub(crate) fn schema_hint(
@@ -173,7 +177,32 @@ fn argument_hint(
         let name = argument.content().name.as_str();
         closest.see(name);
     }
-    closest.hint("", left)
+    match closest.hint("", left)? {
+        Some(words) => Ok(Some(words)),
+        None => Ok(Some(taken_words(alloc, arguments)?)),
+    }
+}
+
+/// The names of these arguments, if they are not too many.
+fn taken_words(
+    alloc: Global,
+    arguments: &[Node<InputValueDefinition>],
+) -> Result<String, AllocError> {
+    if arguments.is_empty() {
+        return String::from_str(alloc, "it takes no argument");
+    }
+    let (named, others) = arguments.split_at(arguments.len().min(NAMED));
+    let mut words = String::from_str(alloc, "it takes ")?;
+    let mut joint = "";
+    for argument in named {
+        let name = argument.content().name.as_str();
+        write!(words, "{joint}`{name}`")?;
+        joint = ", ";
+    }
+    if !others.is_empty() {
+        write!(words, " and {} more", others.len())?;
+    }
+    Ok(words)
 }
 
 /// One of these names.

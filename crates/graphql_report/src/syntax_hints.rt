@@ -1,6 +1,6 @@
 //! What is at the place where a text is not read, and what can be there.
 
-use crate::brackets::open_brackets;
+use crate::brackets::{Brackets, brackets_of};
 use crate::taken::{forms_taken, is_taken};
 use crate::text_names::first_token;
 use graphql_names::SourceSpan;
@@ -90,7 +90,12 @@ pub(crate) fn syntax_hint(
     tells_forms: bool,
 ) -> Result<Option<String>, AllocError> {
     let (head, rest) = text.split_at_checked(place.offset).unwrap_or((text, ""));
-    let (open, ended, nesting) = open_brackets(alloc, head)?;
+    let Brackets {
+        open,
+        ended,
+        most,
+        ..
+    } = brackets_of(alloc, head)?;
     if let Some(words) = usual(head, rest, open.is_some()) {
         return Ok(Some(String::from_str(alloc, words)?));
     }
@@ -116,10 +121,10 @@ pub(crate) fn syntax_hint(
         "on" => "a fragment",
         _ => "",
     };
-    if !kind.is_empty() && is_taken(alloc, begun, "a", place.file_id, nesting)? {
+    if !kind.is_empty() && is_taken(alloc, begun, "a", place.file_id, most)? {
         return Ok(Some(format!(in alloc; "{kind} cannot be `{given}`")?));
     }
-    let forms = forms_taken(alloc, begun, place.file_id, nesting)?;
+    let forms = forms_taken(alloc, begun, place.file_id, most)?;
     Ok(Some(format!(in alloc; "{what}{forms}")?))
 }
 

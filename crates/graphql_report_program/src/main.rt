@@ -1,8 +1,8 @@
 //! Checks documents over a schema, and tells each fault at its line and column.
 //!
-//! `graphql-report [--format text|short|json|github] [--nesting N] [--max-faults N] --schema FILE [--schema FILE].. [--quiet]
-//! [DOCUMENT..]` checks the schema once, and then each document by itself; `-` is standard input. With `--batch` documents come from
-//! standard input, a JSON object a line.
+//! `graphql-report [--format text|short|json|github] [--color auto|always|never] [--nesting N] [--max-faults N] --schema FILE
+//! [--schema FILE].. [--quiet] [DOCUMENT..]` checks the schema once, and then each document by itself; `-` is standard input. With
+//! `--batch` documents come from standard input, a JSON object a line.
 //!
 //! Begin with `check`: `schema_of`, `check_document` and `answer` are the calls of the library. What it takes, prints and counts is
 //! in `report_cli`.
@@ -14,8 +14,8 @@ use crate::batch::check_batch;
 use graphql_checked::{CheckedSchema, Checker, DiagnosticList, Limits, Refusal};
 use graphql_report::Report;
 use report_cli::{
-    Settings, Stop, Tally, Telling, lines_of, read_document, read_files, read_settings, read_words,
-    sources_of, tell_end,
+    Settings, Stop, Tally, Telling, lines_of, read_document, read_schema, read_settings,
+    read_words, sources_of, tell_end, tell_progress,
 };
 use std::alloc::Global;
 use std::mem::forget;
@@ -38,7 +38,7 @@ fn faults_of(refusal: &Refusal) -> Result<&DiagnosticList, Stop> {
     }
 }
 
-/// Tells why the schema is refused.
+/// Tells why the schema is refused, what has no place under the path of its first text.
 fn tell_schema(
     rt: &HostRuntime,
     telling: &Telling<'_>,
@@ -46,7 +46,11 @@ fn tell_schema(
     tally: &mut Tally,
 ) -> Result<(), Stop> {
     let faults = faults_of(refusal)?;
-    let report = Report::new(rt.alloc(), faults, telling.schemas, None, "schema")?;
+    let path = match telling.schemas.first() {
+        Some(source) => source.path,
+        None => "schema",
+    };
+    let report = Report::new(rt.alloc(), faults, telling.schemas, None, path)?;
     tally.add_schema();
     telling.tell(rt, None, report.entries(), tally)
 }
@@ -83,14 +87,16 @@ fn check_document(
     }
 }
 
-/// Checks the documents that are asked for, each by itself.
+/// Tells that the schema is accepted, and checks the documents that are asked for, each by itself.
 fn check_documents(
     rt: &HostRuntime,
     telling: &Telling<'_>,
     schema: &CheckedSchema,
     tally: &mut Tally,
 ) -> Result<(), Stop> {
-    for path in &telling.settings.documents {
+    telling.tell(rt, None, &[], tally)?;
+    for (done, path) in telling.settings.documents.iter().enumerate() {
+        tell_progress(rt, telling.settings, done);
         check_document(rt, telling, schema, path, tally)?;
     }
     if telling.settings.batch {
@@ -101,7 +107,7 @@ fn check_documents(
 
 /// Checks the schema, and then what is asked for.
 fn check(rt: &HostRuntime, settings: &Settings, tally: &mut Tally) -> Result<(), Stop> {
-    let texts = read_files(rt, &settings.schemas)?;
+    let texts = read_schema(rt, settings)?;
     let lines = lines_of(rt.alloc(), &texts)?;
     let sources = sources_of(rt.alloc(), &settings.schemas, &lines)?;
     let telling = Telling {

@@ -1,11 +1,13 @@
 -- Lists of numbers, one after another.
-use Rattle.std.specs.Prelude.{ℕ, ◌-◌, List, map, take, drop}
+use Rattle.std.specs.Prelude.{ℕ, ◌-◌, ◌∷◌, [], List, map, take, drop}
 use Rattle.list_interner.specs.declared.number_rows.Row.{Row}
+use Rattle.list_interner.specs.declared.number_rows.Row.TheVariants.{Two, Part}
 use Rattle.list_interner.specs.declared.number_rows.NumberRows.{NumberRows}
 
 -- the numbers of a row
 abbrev pub part_at : List ℕ → Row → List ℕ
-part_at numbers row = take (row.end - row.start) (drop row.start numbers)
+part_at numbers (Two one other) = one ∷ other ∷ []
+part_at numbers (Part start end) = take (end - start) (drop start numbers)
 
 -- the lists, in the order in which they were added
 abbrev pub rows_of : NumberRows → List (List ℕ)

@@ -1,24 +1,25 @@
 //! Lists of numbers, one after another.
-ghost use Rattle.std.specs.Prelude.{◌≡◌, ◌++◌, ◌∷◌, [], ◌≤◌, ◌<◌, length, get_or, Contains, IfOk, OnOk, OnErr};
+ghost use Rattle.std.specs.Prelude.{◌≡◌, ◌++◌, ◌∷◌, [], ℕ, ◌≤◌, ◌<◌, length, get_or, Contains, IfOk, IfSome, OnOk, OnErr};
 ghost use Rattle.std.proofs.Props.{props};
-ghost use Rattle.list_interner.specs.declared.number_rows.Row.{Row};
+ghost use Rattle.list_interner.specs.declared.number_rows.Row.TheVariants.{Part};
 ghost use Rattle.list_interner.specs.Numbered.{Grows};
 ghost use Rattle.list_interner.specs.Writes.{Writes};
 
 use std::alloc::{AllocError, Global};
 
-/// Where the numbers of one list are.
+/// A list: its two numbers, or where its numbers are, from one index up to another.
 #[derive(Clone, Copy)]
-struct Row {
-    start: u32,
-    end: u32,
+enum Row {
+    Two(u32, u32),
+    Part(u32, u32),
 }
 
-/// Lists of numbers, one after another in one vector. There may be very many, so a number has 32 bits.
+/// Lists of numbers. One that was added as two is in its row; the numbers of the others are one after another in one vector.
+/// There may be very many, so a number has 32 bits.
 pub struct NumberRows {
     numbers: Vec<u32>,
     rows: Vec<Row>,
-    ghost within: { (row : Row) → Contains rows.items row → (row.start ≤ row.end) × (row.end ≤ length numbers.items) } by { Prim.hlevel props },
+    ghost within: { (start end : ℕ) → Contains rows.items (Part start end) → (start ≤ end) × (end ≤ length numbers.items) } by { Prim.hlevel props },
 }
 
 impl Drop for NumberRows {
@@ -57,7 +58,7 @@ fn write_both(numbers: &mut Vec<u32>, first: &[usize], further: &[usize]) -> Res
     write(numbers, first)?;
     write(numbers, further)?;
     let end = short(numbers.len())?;
-    Ok(Row { start, end })
+    Ok(Row::Part(start, end))
 }
 
 impl NumberRows {
@@ -90,6 +91,15 @@ impl NumberRows {
         Ok(())
     }
 
+    /// Adds a list of two numbers.
+    pub fn push_two(&mut self, one: usize, other: usize) -> Result<(), AllocError>
+        ensures pushed { OnOk result (rows_of self.new ≡ rows_of self.old ++ (one ∷ other ∷ []) ∷ []) }
+        ensures refused { OnErr result (rows_of self.new ≡ rows_of self.old) }
+    {
+        self.rows.push(Row::Two(short(one)?, short(other)?))?;
+        Ok(())
+    }
+
     /// Makes `numbers` the list at an index.
     pub fn read(&self, place: usize, numbers: &mut Vec<usize>) -> Result<(), AllocError>
         requires { place < length (rows_of self.now) }
@@ -97,9 +107,28 @@ impl NumberRows {
     {
         numbers.clear();
         let row = self.rows[place];
-        for number in &self.numbers[row.start as usize..row.end as usize] {
-            numbers.push(*number as usize)?;
+        match row {
+            Row::Two(one, other) => {
+                numbers.push(one as usize)?;
+                numbers.push(other as usize)?;
+            }
+            Row::Part(start, end) => {
+                for number in &self.numbers[start as usize..end as usize] {
+                    numbers.push(*number as usize)?;
+                }
+            }
         }
         Ok(())
+    }
+
+    /// The numbers of the list at an index, if it was added as one of two.
+    pub fn two_at(&self, place: usize) -> Option<(usize, usize)>
+        requires { place < length (rows_of self.now) }
+        ensures { IfSome result (λ two. get_or (rows_of self.now) place [] ≡ two.0 ∷ two.1 ∷ []) }
+    {
+        match self.rows[place] {
+            Row::Two(one, other) => Some((one as usize, other as usize)),
+            Row::Part(_, _) => None,
+        }
     }
 }

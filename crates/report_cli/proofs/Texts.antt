@@ -43,9 +43,16 @@ pub wrong_made : (id : List ℕ) (number : ℕ) (why : List ℕ)
     ≡ begun_text id ++ codes "false,\"line\":" ++ decimal number ++ codes ",\"error\":\"" ++ why ++ codes "\"}\n"
 wrong_made id number why = eight (codes "{\"id\":") id (codes ",\"accepted\":") (codes "false,\"line\":") (decimal number) (codes ",\"error\":\"") why (codes "\"}\n")
 
-pub unread_made : (path reason : List ℕ)
-    → codes "{\"document\":" ++ (quoted path ++ (codes ",\"read\":false,\"error\":" ++ (quoted reason ++ codes "}\n"))) ≡ unread_text path reason
-unread_made path reason = five (codes "{\"document\":") (quoted path) (codes ",\"read\":false,\"error\":") (quoted reason) (codes "}\n")
+pub unread_made : (kind path reason : List ℕ)
+    → codes "{\"" ++ (kind ++ (codes "\":" ++ (quoted path ++ (codes ",\"read\":false,\"error\":" ++ (quoted reason ++ codes "}\n"))))) ≡ unread_text kind path reason
+unread_made kind path reason = seven (codes "{\"") kind (codes "\":") (quoted path) (codes ",\"read\":false,\"error\":") (quoted reason) (codes "}\n")
+
+pub schema_made : (paths accepted : List ℕ) (faults : ℕ)
+    → codes "{\"schema\":[" ++ (paths ++ (codes "],\"accepted\":" ++ (accepted ++ (codes ",\"faults\":" ++ (decimal faults ++ codes "}\n")))))
+    ≡ codes "{\"schema\":[" ++ paths ++ codes "]" ++ (codes ",\"accepted\":" ++ accepted ++ codes ",\"faults\":" ++ decimal faults ++ codes "}\n")
+schema_made paths accepted faults =
+    four (codes "{\"schema\":[") paths (codes "]") (codes ",\"accepted\":" ++ (accepted ++ (codes ",\"faults\":" ++ (decimal faults ++ codes "}\n"))))
+    ∙ ap (λ judged. codes "{\"schema\":[" ++ paths ++ codes "]" ++ judged) (five (codes ",\"accepted\":") accepted (codes ",\"faults\":") (decimal faults) (codes "}\n"))
 
 pub summary_made : (t : Tally)
     → codes "{\"summary\":{\"documents\":" ++ (decimal t.documents ++ (codes ",\"refused\":" ++ (decimal t.refused ++ (codes ",\"unread\":"

@@ -1,5 +1,6 @@
 -- The lines that answer a batch, and the records among lines of JSON.
 use Rattle.std.specs.Prelude.{ℕ, ◌==◌, List, ◌++◌, codes, decimal, Option, Some, None, if◌then◌else◌}
+use Rattle.std.specs.List.{join_by}
 use Rattle.json.specs.Print.{quoted}
 use Rattle.report_cli.specs.declared.asked.Why.{Why}
 use Rattle.report_cli.specs.declared.asked.Why.TheVariants.{NotJson, NotUtf8, NoId, WrongId, NoDocument, WrongDocument}
@@ -34,18 +35,28 @@ id_or_null (Some id) = id
 abbrev pub wrong_text : Option (List ℕ) → ℕ → Why → List ℕ
 wrong_text id number why = begun_text (id_or_null id) ++ codes "false,\"line\":" ++ decimal number ++ codes ",\"error\":\"" ++ why_words why ++ codes "\"}\n"
 
--- the beginning of a record of the document with this path
-abbrev pub named_text : List ℕ → List ℕ
-named_text path = codes "{\"document\":" ++ quoted path
+-- the beginning of a record of the text of a kind with this path
+abbrev pub named_text : List ℕ → List ℕ → List ℕ
+named_text kind path = codes "{\"" ++ kind ++ codes "\":" ++ quoted path
 
--- the record of a document that is read: it is accepted if it has no faults
+-- the end of a record of what is read: it is accepted if it has no faults
+abbrev pub judged_text : ℕ → List ℕ
+judged_text faults = codes ",\"accepted\":" ++ (if faults == 0 then codes "true" else codes "false") ++ codes ",\"faults\":" ++ decimal faults ++ codes "}\n"
+
+-- the record of a document that is read
 abbrev pub document_text : List ℕ → ℕ → List ℕ
-document_text path faults =
-    named_text path ++ codes ",\"accepted\":" ++ (if faults == 0 then codes "true" else codes "false") ++ codes ",\"faults\":" ++ decimal faults ++ codes "}\n"
+document_text path faults = codes "{\"document\":" ++ quoted path ++ judged_text faults
 
--- the record of a document that cannot be read
-abbrev pub unread_text : List ℕ → List ℕ → List ℕ
-unread_text path reason = named_text path ++ codes ",\"read\":false,\"error\":" ++ quoted reason ++ codes "}\n"
+-- the record of the schema of the texts under these paths
+abbrev pub paths_text : List (List ℕ) → List ℕ
+paths_text paths = join_by quoted (codes ",") paths
+
+abbrev pub schema_text : List (List ℕ) → ℕ → List ℕ
+schema_text paths faults = codes "{\"schema\":[" ++ paths_text paths ++ codes "]" ++ judged_text faults
+
+-- the record of a text of a kind that cannot be read
+abbrev pub unread_text : List ℕ → List ℕ → List ℕ → List ℕ
+unread_text kind path reason = named_text kind path ++ codes ",\"read\":false,\"error\":" ++ quoted reason ++ codes "}\n"
 
 -- the last record
 abbrev pub summary_text : Tally → List ℕ

@@ -1,7 +1,7 @@
 //! The lines that answer a batch, and the records among lines of JSON.
 
-ghost use Rattle.std.specs.Prelude.{◌≡◌, IfOk, option_map, string_bytes};
-ghost use Rattle.report_cli.specs.Answers.{accepted_text, refused_text, wrong_text, document_text, unread_text, summary_text};
+ghost use Rattle.std.specs.Prelude.{◌≡◌, IfOk, map, option_map, string_bytes};
+ghost use Rattle.report_cli.specs.Answers.{accepted_text, refused_text, wrong_text, schema_text, paths_text, document_text, unread_text, summary_text};
 
 use crate::asked::Why;
 use crate::tally::Tally;
@@ -53,6 +53,34 @@ pub(crate) fn wrong_line(
     format!(in alloc; "{{\"id\":{id},\"accepted\":false,\"line\":{number},\"error\":\"{why}\"}}\n")
 }
 
+/// The record of the schema of the texts under these paths: `{"schema":[PATHS],"accepted":true,"faults":0}`.
+pub(crate) fn schema_record(
+    alloc: Global,
+    paths: &[String],
+    faults: usize,
+) -> Result<String, AllocError>
+    ensures { IfOk result (λ line. string_bytes line ≡ schema_text (map string_bytes paths.now) faults) }
+{
+    let paths = quoted_paths(alloc, paths)?;
+    let is_accepted = faults == 0;
+    format!(in alloc; "{{\"schema\":[{paths}],\"accepted\":{is_accepted},\"faults\":{faults}}}\n")
+}
+
+/// The paths as JSON, with a comma between each two.
+fn quoted_paths(alloc: Global, paths: &[String]) -> Result<String, AllocError>
+    ensures { IfOk result (λ list. string_bytes list ≡ paths_text (map string_bytes paths.now)) }
+{
+    let Some((first, others)) = paths.split_first() else {
+        return Ok(String::new(alloc));
+    };
+    let mut list = quoted(alloc, first)?;
+    for path in others {
+        let path = quoted(alloc, path)?;
+        write!(list, ",{path}")?;
+    }
+    Ok(list)
+}
+
 /// The record of a document that is read: `{"document":PATH,"accepted":true,"faults":0}`.
 pub(crate) fn document_record(
     alloc: Global,
@@ -66,13 +94,18 @@ pub(crate) fn document_record(
     format!(in alloc; "{{\"document\":{path},\"accepted\":{accepted},\"faults\":{faults}}}\n")
 }
 
-/// The record of a document that cannot be read: `{"document":PATH,"read":false,"error":REASON}`.
-pub(crate) fn unread_record(alloc: Global, path: &str, reason: &str) -> Result<String, AllocError>
-    ensures { IfOk result (λ line. string_bytes line ≡ unread_text path.now reason.now) }
+/// The record of a document, or of a text of the schema, that cannot be read: `{"KIND":PATH,"read":false,"error":REASON}`.
+pub(crate) fn unread_record(
+    alloc: Global,
+    kind: &str,
+    path: &str,
+    reason: &str,
+) -> Result<String, AllocError>
+    ensures { IfOk result (λ line. string_bytes line ≡ unread_text kind.now path.now reason.now) }
 {
     let path = quoted(alloc, path)?;
     let reason = quoted(alloc, reason)?;
-    format!(in alloc; "{{\"document\":{path},\"read\":false,\"error\":{reason}}}\n")
+    format!(in alloc; "{{\"{kind}\":{path},\"read\":false,\"error\":{reason}}}\n")
 }
 
 /// The last record: `{"summary":{"documents":N,"refused":N,"unread":N,"faults":N}}`.

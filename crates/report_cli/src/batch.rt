@@ -2,7 +2,7 @@
 
 use crate::answers::{accepted_line, refused_line, wrong_line};
 use crate::asked::{Asked, Why, request_of};
-use crate::files::{Stop, put, unread};
+use crate::files::{Stop, put, reason_of, unread};
 use crate::settings::Settings;
 use crate::tally::Tally;
 use crate::telling::tell_cut;
@@ -19,7 +19,8 @@ pub fn read_request(rt: &HostRuntime, line: io::Result<String>) -> Result<Asked,
             why: Why::NotUtf8,
         }),
         Err(error) => {
-            let _reason = unread(rt, "-", error)?;
+            let reason = reason_of(rt.alloc(), error)?;
+            unread(rt, "-", &reason)?;
             Err(Stop::Unread)
         }
     }

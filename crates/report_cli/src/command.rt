@@ -5,6 +5,8 @@ use std::alloc::{AllocError, Global};
 
 /// The words for forms.
 static FORMS: [&str; 4] = ["text", "short", "json", "github"];
+/// The words for when the form `text` has colours.
+static COLORS: [&str; 3] = ["auto", "always", "never"];
 
 /// The program's command.
 pub(crate) fn program_command<'a>(alloc: Global) -> Result<Command<'a>, AllocError> {
@@ -23,7 +25,7 @@ pub(crate) fn program_command<'a>(alloc: Global) -> Result<Command<'a>, AllocErr
             Arg::new(alloc, "DOCUMENT")
                 .action(ArgAction::Append)
                 .num_args(0..)
-                .help("The files of the documents; `-` is standard input"),
+                .help("The files of the documents, or folders; `-` is standard input"),
         )
 }
 
@@ -41,6 +43,7 @@ fn command_of_options<'a>(alloc: Global) -> Result<Command<'a>, AllocError> {
             "How a fault is told [default: text]",
         )
         .value_parser(FORMS.as_slice()))?
+        .arg(color_option(alloc))?
         .arg(nesting_option(alloc))?
         .arg(option(
             alloc,
@@ -54,7 +57,7 @@ fn command_of_options<'a>(alloc: Global) -> Result<Command<'a>, AllocError> {
                 alloc,
                 "schema",
                 "FILE",
-                "A file of the schema; once for each, in order",
+                "A file of the schema, or a folder for the .graphql and .graphqls files below it; once for each, in order",
             )
             .action(ArgAction::Append)
             .required(true),
@@ -67,6 +70,17 @@ fn option<'a>(alloc: Global, name: &'a str, value: &'a str, help: &'a str) -> Ar
         .long(name)
         .value_name(value)
         .help(help)
+}
+
+/// The option for when there are colours.
+fn color_option<'a>(alloc: Global) -> Arg<'a> {
+    option(
+        alloc,
+        "color",
+        "WHEN",
+        "When `text` has colours: `auto` is on a terminal where NO_COLOR is empty [default: auto]",
+    )
+    .value_parser(COLORS.as_slice())
 }
 
 /// The option for how many brackets may be open at once.

@@ -2,11 +2,14 @@
 
 use crate::answers::summary_record;
 use crate::files::{DEVICE, MEMORY, Stop, put};
-use crate::settings::{Format, Settings};
+use crate::folders::files_of;
+use crate::settings::{Color, Format, Settings};
 use crate::tally::Tally;
 use clap::Error;
 use clap::error::ErrorKind;
-use std::io;
+use std::env::VarError;
+use std::io::IsTerminal;
+use std::{env, io};
 
 /// The status if the words are wrong.
 const WRONG_WORDS: u8 = 2;
@@ -26,11 +29,42 @@ pub fn read_words(rt: &HostRuntime) -> Result<Vec<String>, u8> {
     }
 }
 
-/// What the words ask for; if they ask for nothing that the program does, that is told, and the status is given.
+/// What the words ask for, with files instead of folders. If they ask for nothing that the program does, or a folder cannot
+/// be read, that is told, and the status is given.
 pub fn read_settings(rt: &HostRuntime, words: &[String]) -> Result<Settings, u8> {
-    match Settings::from_words(rt.alloc(), words) {
-        Ok(settings) => Ok(settings),
-        Err(error) => Err(told_of_words(rt, &error)),
+    let mut settings = match Settings::from_words(rt.alloc(), words) {
+        Ok(settings) => settings,
+        Err(error) => return Err(told_of_words(rt, &error)),
+    };
+    if matches!(settings.format, Format::Text) && has_colours(rt, settings.color) {
+        settings.format = Format::Coloured;
+    }
+    match (
+        files_of(rt, &settings.schemas),
+        files_of(rt, &settings.documents),
+    ) {
+        (Ok(schemas), Ok(documents)) => {
+            settings.schemas = schemas;
+            settings.documents = documents;
+            Ok(settings)
+        }
+        (Err(stop), _) | (_, Err(stop)) => Err(stop.tell(rt, Tally::new(false))),
+    }
+}
+
+/// Whether there are colours: by themselves if standard output is a terminal and NO_COLOR is empty or not set (no-color.org).
+fn has_colours(rt: &HostRuntime, color: Color) -> bool {
+    match color {
+        Color::Always => true,
+        Color::Never => false,
+        Color::Auto => {
+            let is_asked_for = match env::var(rt, "NO_COLOR") {
+                Ok(value) => value.is_empty(),
+                Err(VarError::NotPresent) => true,
+                Err(_) => false,
+            };
+            is_asked_for && rt.stdout().is_terminal()
+        }
     }
 }
 

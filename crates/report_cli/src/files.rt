@@ -3,8 +3,9 @@
 use crate::answers::unread_record;
 use crate::settings::{Format, Settings};
 use crate::tally::Tally;
-use report_forms::shown;
-use std::alloc::{AllocError, AllocFailed};
+use report_forms::{Lines, Position, shown};
+use std::alloc::{AllocError, AllocFailed, Global};
+use std::io::Read;
 use std::{fs, io};
 
 /// The status if a file cannot be read or the output cannot be written.
@@ -13,7 +14,7 @@ pub(crate) const DEVICE: u8 = 3;
 pub(crate) const MEMORY: u8 = 4;
 
 /// Why a folder is not read.
-const FOLDER: &str = "a folder: graphql-check takes it, or name its files";
+const FOLDER: &str = "a folder in which no `.graphql` or `.graphqls` file is found";
 
 /// Why the program stops before its end.
 #[derive(Clone, Copy)]
@@ -53,37 +54,70 @@ impl Stop {
     }
 }
 
-/// Tells why the file of this name is not read, and gives the reason.
-pub(crate) fn unread(rt: &HostRuntime, path: &str, error: io::Error) -> Result<String, Stop> {
-    let alloc = rt.alloc();
-    let reason = match error.kind() {
-        io::ErrorKind::OutOfMemory => return Err(Stop::Memory),
-        io::ErrorKind::IsADirectory => String::from_str(alloc, FOLDER)?,
-        io::ErrorKind::InvalidData => format!(in alloc; "{error}: save it as UTF-8")?,
-        _ => format!(in alloc; "{error}")?,
-    };
-    let path = shown(alloc, path)?;
+/// Tells why the file of this name is not read.
+pub(crate) fn unread(rt: &HostRuntime, path: &str, reason: &str) -> Result<(), Stop> {
+    let path = shown(rt.alloc(), path)?;
     let _ = eprintln!(rt; "{path}: cannot be read: {reason}");
-    Ok(reason)
+    Ok(())
 }
 
-/// The text of the file of this name, or of standard input for `-`. The file is closed then.
-fn read_file(rt: &HostRuntime, path: &str) -> io::Result<String> {
-    if path == "-" {
-        io::read_to_string(rt.alloc(), rt.stdin())
-    } else {
-        fs::read_to_string(rt, path)
+/// The reason that an error of reading tells.
+pub(crate) fn reason_of(alloc: Global, error: io::Error) -> Result<String, Stop> {
+    match error.kind() {
+        io::ErrorKind::OutOfMemory => Err(Stop::Memory),
+        io::ErrorKind::IsADirectory => Ok(String::from_str(alloc, FOLDER)?),
+        _ => Ok(format!(in alloc; "{error}")?),
     }
 }
 
-/// The texts of the files, in order.
-pub fn read_files(rt: &HostRuntime, paths: &[String]) -> Result<Vec<String>, Stop> {
+/// Why these bytes, the first so many of which are UTF-8, are no text, and where.
+fn encoding_words(alloc: Global, bytes: &[u8], valid: usize) -> Result<String, AllocError> {
+    let (head, rest) = bytes.split_at_checked(valid).unwrap_or((bytes, &[]));
+    let Some(byte) = rest.first() else {
+        return String::from_str(alloc, "it is not UTF-8");
+    };
+    if bytes.starts_with(&[0xff, 0xfe]) || bytes.starts_with(&[0xfe, 0xff]) {
+        return String::from_str(alloc, "it is UTF-16: save it as UTF-8");
+    }
+    let text = std::str::from_utf8(head).unwrap_or("");
+    let lines = Lines::new(alloc, text)?;
+    let Position { line, column } = lines.position(text.len());
+    format!(in alloc; "the byte {byte:02X} at {line}:{column} is not UTF-8: save it as UTF-8")
+}
+
+/// The bytes of the file of this name, or of standard input for `-`. The file is closed then.
+fn read_bytes(rt: &HostRuntime, path: &str) -> io::Result<Vec<u8>> {
+    if path != "-" {
+        return fs::read(rt, path);
+    }
+    let mut bytes = Vec::new(rt.alloc());
+    rt.stdin().read_to_end(&mut bytes)?;
+    Ok(bytes)
+}
+
+/// The text of the file of this name, or of standard input for `-`; or why it has none.
+fn read_file(rt: &HostRuntime, path: &str) -> Result<Result<String, String>, Stop> {
+    let bytes = match read_bytes(rt, path) {
+        Ok(bytes) => bytes,
+        Err(error) => return Ok(Err(reason_of(rt.alloc(), error)?)),
+    };
+    match String::from_utf8(bytes) {
+        Ok(text) => Ok(Ok(text)),
+        Err(error) => {
+            let valid = error.utf8_error().valid_up_to();
+            Ok(Err(encoding_words(rt.alloc(), error.as_bytes(), valid)?))
+        }
+    }
+}
+
+/// The texts of the schema, in order. If one cannot be read, that is told, among lines of JSON too.
+pub fn read_schema(rt: &HostRuntime, settings: &Settings) -> Result<Vec<String>, Stop> {
     let mut texts = Vec::new(rt.alloc());
-    for path in paths {
-        match read_file(rt, path) {
+    for path in &settings.schemas {
+        match read_file(rt, path)? {
             Ok(text) => texts.push(text)?,
-            Err(error) => {
-                let _reason = unread(rt, path, error)?;
+            Err(reason) => {
+                tell_unread(rt, settings, "schema", path, &reason)?;
                 return Err(Stop::Unread);
             }
         }
@@ -98,17 +132,30 @@ pub fn read_document(
     path: &str,
     tally: &mut Tally,
 ) -> Result<Option<String>, Stop> {
-    let error = match read_file(rt, path) {
-        Ok(text) => return Ok(Some(text)),
-        Err(error) => error,
-    };
-    let reason = unread(rt, path, error)?;
-    tally.add_unread();
-    if matches!(settings.format, Format::Json) {
-        let record = unread_record(rt.alloc(), path, &reason)?;
-        put(rt, &record)?;
+    match read_file(rt, path)? {
+        Ok(text) => Ok(Some(text)),
+        Err(reason) => {
+            tally.add_unread();
+            tell_unread(rt, settings, "document", path, &reason)?;
+            Ok(None)
+        }
     }
-    Ok(None)
+}
+
+/// Tells why the text of this kind is not read, among lines of JSON too.
+fn tell_unread(
+    rt: &HostRuntime,
+    settings: &Settings,
+    kind: &str,
+    path: &str,
+    reason: &str,
+) -> Result<(), Stop> {
+    unread(rt, path, reason)?;
+    if !matches!(settings.format, Format::Json) {
+        return Ok(());
+    }
+    let record = unread_record(rt.alloc(), kind, path, reason)?;
+    put(rt, &record)
 }
 
 /// Writes the text to standard output.

@@ -11,15 +11,28 @@ const NESTING: usize = 500;
 #[derive(Clone, Copy)]
 pub enum Format {
     Text,
+    /// `Text` in colours.
+    Coloured,
     Short,
     Json,
     Github,
+}
+
+/// When the form `Text` has colours.
+#[derive(Clone, Copy)]
+pub enum Color {
+    /// If people read it, and do not ask for none.
+    Auto,
+    Always,
+    Never,
 }
 
 /// What the program's words ask for.
 pub struct Settings {
     /// How faults are told.
     pub format: Format,
+    /// When there are colours.
+    pub color: Color,
     /// How many brackets may be open at once.
     pub nesting: usize,
     /// How many faults are told of the schema, and of each document.
@@ -38,6 +51,7 @@ impl Drop for Settings {
     fn drop(self) {
         let Settings {
             format: _,
+            color: _,
             nesting: _,
             max_faults: _,
             schemas: _,
@@ -49,8 +63,8 @@ impl Drop for Settings {
 }
 
 impl Settings {
-    /// Reads the words, the program's name first: `[--format text|short|json|github] [--nesting N] [--max-faults N]
-    /// --schema FILE [--schema FILE].. [--batch] [--quiet] [DOCUMENT..]`.
+    /// Reads the words, the program's name first: `[--format text|short|json|github] [--color auto|always|never] [--nesting N]
+    /// [--max-faults N] --schema FILE [--schema FILE].. [--batch] [--quiet] [DOCUMENT..]`.
     ///
     /// An error has the text for the user: a fault of the words, what `--help` or `--version` shows, or out of memory.
     pub fn from_words(alloc: Global, words: &[String]) -> Result<Settings, Error> {
@@ -67,6 +81,11 @@ fn settings_in(alloc: Global, matches: &ArgMatches<'_>) -> Result<Settings, Allo
             Some("json") => Format::Json,
             Some("github") => Format::Github,
             _ => Format::Text,
+        },
+        color: match matches.get_str("color") {
+            Some("always") => Color::Always,
+            Some("never") => Color::Never,
+            _ => Color::Auto,
         },
         nesting: matches.get_one::<usize>("nesting").unwrap_or(NESTING),
         max_faults: matches.get_one::<usize>("max-faults").unwrap_or(usize::MAX),

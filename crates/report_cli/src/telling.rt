@@ -1,15 +1,18 @@
 //! Telling faults in the form that is asked for.
 
-use crate::answers::document_record;
+use crate::answers::{document_record, schema_record};
 use crate::files::{Stop, put};
 use crate::folding::{Printed, folded};
 use crate::settings::{Format, Settings};
 use crate::tally::Tally;
 use report_forms::{Entry, Lines, Source};
 use std::alloc::{AllocError, Global};
+use std::io::IsTerminal;
 
 /// How many faults of the rules a check tells at most.
 const MOST_TOLD: usize = 1_000;
+/// Of more documents than this the progress is told, each time when so many are done.
+const MANY: usize = 200;
 
 /// What is asked for, and the texts of the schema.
 #[derive(Clone, Copy)]
@@ -21,7 +24,7 @@ pub struct Telling<'a> {
 impl Telling<'_> {
     /// Counts the faults that are told of a document, or of the schema if there is no path, and prints as many as are asked
     /// for. Lines of JSON are for programs, which fold them as they like: there each fault has its line, and after them the
-    /// document has one, also if it is accepted.
+    /// document or the schema has one, also if it is accepted.
     pub fn tell(
         &self,
         rt: &HostRuntime,
@@ -36,10 +39,10 @@ impl Telling<'_> {
             for entry in &entries[..entries.len().min(most)] {
                 print_formed(rt, Format::Json, entry)?;
             }
-            let Some(path) = document else {
-                return Ok(());
+            let record = match document {
+                None => schema_record(rt.alloc(), &self.settings.schemas, entries.len())?,
+                Some(path) => document_record(rt.alloc(), path, entries.len())?,
             };
-            let record = document_record(rt.alloc(), path, entries.len())?;
             return put(rt, &record);
         }
         let printed = folded(rt.alloc(), entries)?;
@@ -63,6 +66,15 @@ impl Telling<'_> {
             }
         }
         Ok(())
+    }
+}
+
+/// Says on standard error how many of many documents are done, if that is a terminal. The next line takes the place of this one, and
+/// is longer.
+pub fn tell_progress(rt: &HostRuntime, settings: &Settings, done: usize) {
+    let all = settings.documents.len();
+    if all > MANY && done > 0 && done % MANY == 0 && !settings.quiet && rt.stderr().is_terminal() {
+        let _ = eprint!(rt; "{done} of {all}\r");
     }
 }
 
@@ -103,6 +115,7 @@ fn print_formed(rt: &HostRuntime, format: Format, entry: &Entry) -> Result<(), S
     let alloc = rt.alloc();
     let formed = match format {
         Format::Text => entry.text(alloc),
+        Format::Coloured => entry.coloured(alloc),
         Format::Short => entry.short(alloc),
         Format::Json => entry.json(alloc),
         Format::Github => entry.github(alloc),

@@ -16,6 +16,17 @@ feed : chars (10 ∷ []) ≡ 10 ∷ []
 unfolding chars
 feed = refl
 
+none : chars [] ≡ []
+unfolding chars
+none = refl
+
+nothing : All (λ c. (is_control c && not (c == 10)) ≡ false) []
+nothing k d less = absurd (omega arith)
+
+-- no text
+pub clean-nothing : (text : List ℕ) → text ≡ [] → HasOnlyLineFeeds text
+clean-nothing text e = subst (All (λ c. (is_control c && not (c == 10)) ≡ false)) (sym (ap chars e ∙ none)) nothing
+
 one : All (λ c. (is_control c && not (c == 10)) ≡ false) (10 ∷ [])
 one zero d less = refl
 one (suc k) d less = absurd (omega arith)

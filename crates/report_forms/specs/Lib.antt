@@ -5,6 +5,8 @@ pub mod Starts
 pub mod Shown
 pub mod Escapes
 pub mod Forms
+pub mod Colours
+pub mod Closest
 pub mod Places
 pub mod Order
 pub mod Noted

@@ -10,6 +10,7 @@
 #![tactic(auto)]
 
 mod closest;
+mod coloured_form;
 mod ends;
 mod entry;
 mod escapes;

@@ -20,7 +20,7 @@ impl Entry {
     }
 
     /// The line, from its parts.
-    fn heading(&self, alloc: Global) -> Result<String, AllocError>
+    pub(crate) fn heading(&self, alloc: Global) -> Result<String, AllocError>
         ensures { IfOk result (λ text. string_bytes text ≡ heading self.now) }
     {
         let start = match self.place {

@@ -18,18 +18,27 @@ impl Entry {
         ensures { IfOk result (λ text. HasOnlyLineFeeds (string_bytes text)) }
     {
         let mut out = self.short(alloc)?;
+        self.push_below(alloc, &mut out)?;
+        Ok(out)
+    }
+
+    /// Adds the lines that are below the short form.
+    pub(crate) fn push_below(&self, alloc: Global, out: &mut String) -> Result<(), AllocError>
+        requires { HasOnlyLineFeeds (string_bytes out.old) }
+        ensures { OnOk result (HasOnlyLineFeeds (string_bytes out.new)) }
+    {
         if let Some(place) = self.place
             && let Some(excerpt) = &self.excerpt
         {
-            push_excerpt(alloc, &mut out, place.start.line, excerpt)?;
+            push_excerpt(alloc, out, place.start.line, excerpt)?;
         }
         for related in &self.related {
-            push_related(alloc, &mut out, related)?;
+            push_related(alloc, out, related)?;
         }
-        if let Some(hint) = &self.hint {
-            push_noted(alloc, &mut out, "help", hint)?;
+        match &self.hint {
+            None => Ok(()),
+            Some(hint) => push_noted(alloc, out, "help", hint),
         }
-        Ok(out)
     }
 }
 

@@ -1,7 +1,7 @@
 -- Sets by their nodes: those of a group, each number once.
-use Rattle.std.proofs.Common.{◌≡◌, ◌⊎◌, ◌∙◌, ℕ, ◌+◌, ◌<◌, Bool, true, false, not, Option, None, Some, List, [], ◌∷◌, ◌++◌, length, get_or, take, Contains, refl, sym, ap, subst, append-nil, inl, inr, if◌then◌else◌, true≢false}
+use Rattle.std.proofs.Common.{◌≡◌, ◌⊎◌, ◌∙◌, ℕ, ◌+◌, ◌<◌, Bool, true, false, not, Option, None, Some, List, [], ◌∷◌, ◌++◌, length, get_or, take, Contains, refl, sym, ap, subst, append-nil, inl, inr, if◌then◌else◌, true≢false, arith}
 use Rattle.std.specs.List.{AllZip, list_any}
-use Rattle.std.specs.Prelude.{nat_eq}
+use Rattle.std.specs.Prelude.{nat_eq, option_to_list}
 use Rattle.std.proofs.lemmas.Bool.Decides.{Decides-eqb}
 use Rattle.std.proofs.lemmas.List.{map-append}
 use Rattle.std.proofs.lemmas.List.Elements.{Contains-append_left, Contains-append_cases, AllZip-push}
@@ -187,3 +187,49 @@ module _ (w : FieldSets) where
         (subst (Contains (read_sets (meant_sets w (old ++ node ∷ [])))) (ap list_read same)
         (contains_map list_read (meant_sets w (old ++ node ∷ [])) (set_at w node) (contains_map (set_at w) (old ++ node ∷ []) node (in_last old node)))));
   }
+
+  -- ---- the sets of two fields
+
+  -- that of one alone
+  pub alone_noted : AreSets w → (m : Member) → HasMember w m → NotesSet (field_of m) [] (meant_sets w (option_to_list m.below))
+  alone_noted are m has = by m.below refl
+    where
+      by : (o : Option ℕ) → m.below ≡ o → NotesSet (field_of m) [] (meant_sets w (option_to_list o))
+      by None e = bare_noted (field_of m) [] (member_bare w are m has e)
+      by (Some n) e = last_noted [] (n ∷ []) n refl (field_of m) (member_below w are m has n e)
+
+  pub two_noted : (one other : Member) (first nodes : List ℕ) → NotesSet (field_of one) [] (meant_sets w first) → NotesSet (field_of other) (meant_sets w first) (meant_sets w nodes)
+      → AreSetsOf (fields_of (one ∷ other ∷ [])) (meant_sets w nodes)
+  two_noted one other first nodes a b = sets_more (field_of other) (field_of one ∷ []) (meant_sets w first) (meant_sets w nodes) b (sets_more (field_of one) [] [] (meant_sets w first) a no_sets)
+
+  module _ (are : AreSets w) (one other : Member) (has : HasMember w one) (has_too : HasMember w other) where
+    -- the first has none
+    pub second_alone : one.below ≡ None → AreSetsOf (fields_of (one ∷ other ∷ [])) (meant_sets w (option_to_list other.below))
+    second_alone none = two_noted one other [] (option_to_list other.below) (bare_noted (field_of one) [] (member_bare w are one has none)) (alone_noted are other has_too)
+
+    -- the second has none
+    pub first_alone : other.below ≡ None → AreSetsOf (fields_of (one ∷ other ∷ [])) (meant_sets w (option_to_list one.below))
+    first_alone none =
+        let nodes = option_to_list one.below in
+        two_noted one other nodes nodes (alone_noted are one has) (bare_noted (field_of other) (meant_sets w nodes) (member_bare w are other has_too none))
+
+    -- both are read alike
+    pub one_for_both : (first second : ℕ) → one.below ≡ Some first → other.below ≡ Some second → (noted number : ℕ) → set_content_at w noted ≡ node_read w first → set_content_at w number ≡ node_read w second → number ≡ noted
+        → AreSetsOf (fields_of (one ∷ other ∷ [])) (meant_sets w (option_to_list one.below))
+    one_for_both first second is is_too noted number reads reads_too equal =
+        let nodes = option_to_list one.below in
+        let there : Contains nodes first = subst (λ o. Contains (option_to_list o) first) (sym is) (in_last [] first) in
+        two_noted one other nodes nodes (alone_noted are one has) (known_noted nodes noted number first second there reads reads_too equal (field_of other) (member_below w are other has_too second is_too))
+
+    -- both have one
+    pub both_noted : (first second : ℕ) → one.below ≡ Some first → other.below ≡ Some second → AreSetsOf (fields_of (one ∷ other ∷ [])) (meant_sets w (first ∷ second ∷ []))
+    both_noted first second is is_too =
+        two_noted one other (first ∷ []) (first ∷ second ∷ []) (last_noted [] (first ∷ []) first refl (field_of one) (member_below w are one has first is))
+        (last_noted (first ∷ []) (first ∷ second ∷ []) second refl (field_of other) (member_below w are other has_too second is_too))
+
+-- a list of two
+pub two_items : {X : Type 0} (xs : List X) (a b : X) → length xs ≡ 2 → a ≡ get_or xs 0 a → b ≡ get_or xs 1 b → a ∷ b ∷ [] ≡ xs
+two_items [] a b h p q = absurd (omega (arith, h))
+two_items (x ∷ []) a b h p q = absurd (omega (arith, h))
+two_items (x ∷ y ∷ []) a b h p q = λ i. p i ∷ q i ∷ []
+two_items (x ∷ y ∷ z ∷ rest) a b h p q = absurd (omega (arith, h))

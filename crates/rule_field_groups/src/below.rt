@@ -1,5 +1,5 @@
 //! The sets of a group of fields.
-ghost use Rattle.std.specs.Prelude.{◌≡◌, ◌++◌, ◌∷◌, [], map, Contains, IfOk, OnOk};
+ghost use Rattle.std.specs.Prelude.{◌≡◌, ◌++◌, ◌∷◌, [], map, option_to_list, Contains, IfOk, OnOk};
 ghost use Rattle.rule_field_sets.specs.Nodes.{AreSets, HasMember};
 ghost use Rattle.list_interner.specs.NumberRows.{rows_of};
 ghost use Rattle.rule_field_groups.specs.Members.{field_of, fields_of, meant_sets, AreMembersOf};
@@ -143,7 +143,7 @@ fn push_each_with(nodes: &[usize], last: usize, lists: &mut NumberRows) -> Resul
     ensures { OnOk result (rows_of lists.new ≡ rows_of lists.old ++ each_with nodes.now last) }
 {
     for node in nodes {
-        lists.push(&[*node], &[last])?;
+        lists.push_two(*node, last)?;
     }
     Ok(())
 }
@@ -240,6 +240,41 @@ fn note_node(
     Ok(())
 }
 
+/// Adds a list of one node, if it is there.
+fn push_node(node: Option<usize>, lists: &mut NumberRows) -> Result<(), AllocError>
+    ensures { OnOk result (JoinsSets [] (option_to_list node) (rows_of lists.old) (rows_of lists.new)) }
+{
+    match node {
+        None => Ok(()),
+        Some(node) => lists.push(&[node], &[]),
+    }
+}
+
+/// Adds a list of the sets of two fields that go together, unless neither has selections.
+fn push_below_two(
+    sets: &FieldSets<'_>,
+    one: &Member<'_>,
+    other: &Member<'_>,
+    lists: &mut NumberRows,
+) -> Result<(), AllocError>
+    requires sets { AreSets sets.now }
+    requires one { HasMember sets.now one.now }
+    requires other { HasMember sets.now other.now }
+    ensures { OnOk result (AddsBelow (fields_of (one.now ∷ other.now ∷ []) ∷ []) (sets_in sets.now lists.old) (sets_in sets.now lists.new)) }
+{
+    let Some(first) = one.below else {
+        return push_node(other.below, lists);
+    };
+    let Some(second) = other.below else {
+        return push_node(one.below, lists);
+    };
+    let noted = number_of(sets, first)?;
+    if number_of(sets, second)? == noted {
+        return push_node(one.below, lists);
+    }
+    lists.push_two(first, second)
+}
+
 /// Adds a list of the sets of a few fields that go together, unless none of them has selections. No index is made.
 pub fn push_below(
     alloc: Global,
@@ -251,6 +286,10 @@ pub fn push_below(
     requires members { AreMembersOf sets.now fields.now }
     ensures { OnOk result (AddsBelow (fields_of fields.now ∷ []) (sets_in sets.now lists.old) (sets_in sets.now lists.new)) }
 {
+    // Most lists are of two fields, which need no list of nodes.
+    if fields.len() == 2 {
+        return push_below_two(sets, &fields[0], &fields[1], lists);
+    }
     let mut nodes = Vec::new(alloc);
     for field in fields {
         note_node(sets, *field, &mut nodes)?;

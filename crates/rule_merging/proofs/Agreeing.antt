@@ -1,7 +1,6 @@
 -- Fields agree if their numbers show it: then nothing is told of them.
-use Rattle.std.proofs.Common.{◌≡◌, ◌++◌, List, [], ◌∷◌, Vec, Global, Contains, refl, sym, subst, append-nil}
+use Rattle.std.proofs.Common.{◌≡◌, List, [], ◌∷◌, refl, sym, subst, append-nil}
 use Rattle.std.specs.List.{AllByRecursion}
-use Rattle.graphql_names.specs.Placed.{Place}
 use Rattle.rule_field_groups.proofs.in_definitions.Lists.{Contains-first}
 use Rattle.rule_field_groups.proofs.in_definitions.in_schema_types.in_components.Places.{not_in_nil, Contains-rest}
 use Rattle.rule_field_groups.specs.in_definitions.Judged.{Judged}

@@ -29,7 +29,7 @@ use Rattle.rule_field_groups.specs.in_sets.declared.member.Member.{Member}
 use Rattle.rule_field_groups.specs.in_sets.declared.field_sets.FieldSets.{FieldSets}
 use Rattle.rule_field_groups.specs.declared.pass.Pass.{Pass}
 use Rattle.rule_field_groups.specs.declared.pass.Pass.TheVariants.{Shapes, Selections}
-use Rattle.rule_field_groups.specs.Members.{field_of, fields_of, contents_of, meant_sets, read_sets, AreMembersOf}
+use Rattle.rule_field_groups.specs.Members.{field_of, fields_of, contents_of, read_sets, AreMembersOf}
 use Rattle.rule_field_groups.specs.LaterField.{BreaksAtLater}
 use Rattle.rule_field_groups.specs.Passes.{Together, Agree, Conflict, ReadTogether, ReadAgree, TellsEach}
 use Rattle.rule_merging.specs.Paired.{IsPairDone}

@@ -18,7 +18,7 @@ use Rattle.rule_field_groups.specs.Below.{IsMergedIn}
 use Rattle.rule_field_groups.specs.Passes.{ReadTogether}
 use Rattle.rule_field_groups.specs.MergeState.{Kept}
 use Rattle.rule_merging.specs.Counted.{IsLast, AreListed}
-use Rattle.rule_merging.specs.Examined.{Sets, all_read, AreLookedAt, ReadSelected, IsLeft, AreUnderWay, AllStand, SetsExamined}
+use Rattle.rule_merging.specs.Examined.{Sets, all_read, AreLookedAt, ReadSelected, IsLeft, AreUnderWay, SetsExamined}
 use Rattle.rule_merging.specs.Twos.{are_of, both_of, FieldsPaired}
 use Rattle.rule_merging.proofs.Passing.{together_read}
 use Rattle.rule_merging.proofs.Examining.{SetsStand, moved_lists, in_merged, together_more, all_of_one, left_on, left_wider, done_more}

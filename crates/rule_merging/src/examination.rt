@@ -1,5 +1,5 @@
 //! The examination of lists, level by level.
-ghost use Rattle.std.specs.Prelude.{◌≡◌, ◌≤◌, ◌+◌, ◌∷◌, [], map, IsTrue, IfOk, OnOk};
+ghost use Rattle.std.specs.Prelude.{◌≡◌, ◌<◌, ◌≤◌, ◌+◌, ◌∷◌, [], length, get_or, map, IsTrue, IfOk, OnOk};
 ghost use Rattle.list_interner.specs.NumberRows.{rows_of};
 ghost use Rattle.rule_field_groups.specs.in_sets.Read.{set_at};
 ghost use Rattle.rule_field_groups.specs.Members.{fields_of, meant_sets, AreMembersOf};
@@ -160,6 +160,29 @@ impl<'doc> Examination<'_, 'doc> {
         Ok(())
     }
 
+    /// Examines the list at an index of a level. Its nodes are read to `nodes`, if they are not two that are looked at in pairs.
+    fn examine_at(
+        &self,
+        level: &NumberRows,
+        place: usize,
+        nodes: &mut Vec<usize>,
+        examined: &mut MergeState,
+        breaches: &mut Vec<Breach>,
+    ) -> Result<(), AllocError>
+        requires sets { HasSets self.now }
+        requires place { place < length (rows_of level.now) }
+        ensures examined { OnOk result (ExaminesThese self.now (get_or (rows_of level.now) place []) examined.old examined.new breaches.old breaches.new) }
+        ensures counted { GrowsOver self.now (meant_sets (sets_of self.now) (get_or (rows_of level.now) place []) ∷ []) examined.old examined.new }
+    {
+        if let Some((one, other)) = level.two_at(place) {
+            if examined.skips(&[one, other]) {
+                return self.examine_two(one, other, examined, breaches);
+            }
+        }
+        level.read(place, nodes)?;
+        self.examine_once(nodes, examined, breaches)
+    }
+
     /// Examines the lists of one level. Returns the lists of the next one.
     fn examine_level(
         &self,
@@ -175,8 +198,7 @@ impl<'doc> Examination<'_, 'doc> {
         examined.next = NumberRows::new(alloc);
         let mut nodes = Vec::new(alloc);
         for place in 0..level.len() {
-            level.read(place, &mut nodes)?;
-            self.examine_once(&nodes, examined, breaches)?;
+            self.examine_at(level, place, &mut nodes, examined, breaches)?;
         }
         Ok(replace(&mut examined.next, NumberRows::new(alloc)))
     }

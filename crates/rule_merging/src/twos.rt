@@ -244,6 +244,24 @@ impl<'doc> Examination<'_, 'doc> {
         Ok(())
     }
 
+    /// Examines what two sets select, each of them and both together, until something is told.
+    pub(crate) fn examine_two(
+        &self,
+        one: usize,
+        other: usize,
+        examined: &mut MergeState,
+        breaches: &mut Vec<Breach>,
+    ) -> Result<(), AllocError>
+        requires sets { HasSets self.now }
+        ensures examined { OnOk result (ExaminesThese self.now (one ∷ other ∷ []) examined.old examined.new breaches.old breaches.new) }
+        ensures counted { GrowsOver self.now (meant_sets (sets_of self.now) (one ∷ other ∷ []) ∷ []) examined.old examined.new }
+    {
+        examined.begin_pairs();
+        examined.look_at_each(self.sets, &[one], one)?;
+        examined.look_at_each(self.sets, &[one, other], other)?;
+        self.examine_pairs(examined, breaches)
+    }
+
     /// Looks at each of these sets with the other, which comes after them, and examines the pairs, until something is told.
     fn examine_with_those(
         &self,

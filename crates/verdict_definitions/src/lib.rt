@@ -10,4 +10,4 @@
 
 // From the crates below, for those above.
 pub use document_typing::{BuilderRefusal, ExecutableDocumentBuilder, Schema, SchemaBuilder};
-pub use graphql_faults::{Details, DiagnosticList, ReadFault, SyntaxFault, parse_document};
+pub use graphql_faults::{Details, DiagnosticList, ReadFault, SyntaxFault, parse_shared_document};

@@ -5,6 +5,7 @@ package main
 
 import (
 	"bytes"
+	"context"
 	"encoding/json"
 	"flag"
 	"fmt"
@@ -32,14 +33,14 @@ type problem struct {
 	Extensions map[string]string `json:"extensions,omitempty"`
 }
 
-// checker tells what is wrong with a query: nothing where it is accepted. An error is no verdict.
-type checker func(query []byte) ([]problem, error)
+// checker tells what is wrong with a query: nothing where it is accepted. An error is no verdict. It waits no longer than the context.
+type checker func(ctx context.Context, query []byte) ([]problem, error)
 
 // checkers are made of a schema, by name. With the tag gqlparser there is one more.
 var checkers = map[string]func(path string, text []byte) (checker, error){
 	"graphqlchecked": newChecked,
 	"none": func(string, []byte) (checker, error) {
-		return func([]byte) ([]problem, error) { return nil, nil }, nil
+		return func(context.Context, []byte) ([]problem, error) { return nil, nil }, nil
 	},
 }
 
@@ -49,8 +50,8 @@ func newChecked(path string, text []byte) (checker, error) {
 	if err != nil {
 		return nil, err
 	}
-	return func(query []byte) ([]problem, error) {
-		faults, err := pool.Check(graphqlchecked.Text{Path: "query", Bytes: query})
+	return func(ctx context.Context, query []byte) ([]problem, error) {
+		faults, err := pool.CheckContext(ctx, graphqlchecked.Text{Path: "query", Bytes: query})
 		problems := make([]problem, len(faults))
 		for i, fault := range faults {
 			problems[i] = problem{fault.Message, []location{location(fault.Position)}, map[string]string{"rule": fault.Rule, "hint": fault.Hint}}
@@ -72,7 +73,7 @@ func onlyAccepted(check checker, next http.Handler) http.Handler {
 			http.Error(w, err.Error(), http.StatusBadRequest)
 			return
 		}
-		problems, err := check([]byte(request.Query))
+		problems, err := check(r.Context(), []byte(request.Query))
 		if err != nil {
 			http.Error(w, err.Error(), http.StatusInternalServerError)
 			return

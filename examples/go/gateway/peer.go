@@ -3,6 +3,8 @@
 package main
 
 import (
+	"context"
+
 	"github.com/vektah/gqlparser/v2"
 	"github.com/vektah/gqlparser/v2/ast"
 )
@@ -13,7 +15,7 @@ func init() {
 		if err != nil {
 			return nil, err
 		}
-		return func(query []byte) ([]problem, error) {
+		return func(_ context.Context, query []byte) ([]problem, error) {
 			_, errs := gqlparser.LoadQuery(schema, string(query))
 			problems := make([]problem, len(errs))
 			for i, err := range errs {

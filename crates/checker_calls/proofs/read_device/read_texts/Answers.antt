@@ -1,4 +1,5 @@
 use Rattle.std.proofs.Common.{arith, ◌≡◌, ◌++◌, ◌∷◌, [], map, string_bytes, get_or, refl, Some, ◌∙◌}
+use Rattle.std.specs.Rc.{rc_str_bytes}
 use Rattle.std.specs.Prelude.{slice_get, slice_set}
 use Rattle.std.proofs.lemmas.Grind.{common_steps}
 use Rattle.std.proofs.Math.Seq.{map-set_same}
@@ -10,7 +11,7 @@ use Rattle.checker_calls.proofs.read_device.read_texts.Goals as goal
 
 pub loop-i-preserved : goal.loop-i-preserved
 loop-i-preserved g c =
-    let pushed : map string_bytes c.push.new.self.items ≡ map string_bytes c.loop-i.texts.items ++ string_bytes c.in-Ok.text ∷ [] = grind (arith, common_steps) in
+    let pushed : map rc_str_bytes c.push.new.self.items ≡ map rc_str_bytes c.loop-i.texts.items ++ string_bytes c.in-Ok.text ∷ [] = grind (arith, common_steps) in
     record {
       read = rw pushed (read_on c.args.devices.now c.loop-i.devices c.loop-i.i (get_or c.loop-i.devices c.loop-i.i c.index-devices-i.result) c.index-devices-i.result (omega arith) c.loop-i.invariant.rest refl
           (IsTextOf g.R.Read.remaining) _ _ c.loop-i.invariant.read c.in-Ok.ensures.text);

@@ -7,10 +7,10 @@ use Rattle.graphql_checked.proofs.Verdicts.{certain_document, document_not_faile
 use Rattle.graphql_checked.proofs.Answering.{accepted_bytes, document_answer, memory_answer}
 use Rattle.graphql_checked.proofs.run_texts.judge_document.Goals as goal
 
-pub returns-in_ok-accepted_answer-in-Ok-clause-answer : goal.returns-in_ok-accepted_answer-in-Ok-clause-answer
-returns-in_ok-accepted_answer-in-Ok-clause-answer c terms schemas is =
-    let parts = c.in_ok-accepted_answer-in-Ok.ensures in
-    let bytes = parts_bytes c.in_ok-accepted_answer-in-Ok.field-0 in (
+pub returns-in_ok-bytes-in-Ok-clause-answer : goal.returns-in_ok-bytes-in-Ok-clause-answer
+returns-in_ok-bytes-in-Ok-clause-answer c terms schemas is =
+    let parts = c.in_ok-bytes-in-Ok.ensures in
+    let bytes = parts_bytes c.in_ok-bytes-in-Ok.bytes in (
       parts.0,
       accepted_bytes terms schemas c.args.document.now (schema_value c.args.schema.now) is (document_value c.in-Ok.checked).document c.in-Ok.ensures.accepted (prefix_of c.args.layout) bytes
           (subst (λ text. IsWrittenAnswer (prefix_of c.args.layout) (schema_value c.args.schema.now) text bytes) c.in-Ok.ensures.text

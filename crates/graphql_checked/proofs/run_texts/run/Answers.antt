@@ -1,4 +1,5 @@
-use Rattle.std.proofs.Common.{map, string_bytes, ap, sym, subst}
+use Rattle.std.proofs.Common.{map, ap, sym, subst}
+use Rattle.std.specs.Rc.{rc_str_bytes}
 use Rattle.std.specs.Prelude.{IsUtf8}
 use Rattle.std.specs.List.{All}
 use Rattle.std.proofs.lemmas.Result.{err_from_is_err_and}
@@ -35,7 +36,7 @@ put-requires g c = c.in_ok-outcome.ensures.answer.0
 
 pub returns-clause-complete : goal.returns-clause-complete
 returns-clause-complete g c =
-    let texts = map string_bytes c.in_ok-texts.texts.items in
+    let texts = map rc_str_bytes c.in_ok-texts.texts.items in
     let are = c.in_ok-texts.ensures.texts in
     let is = subst (IsTextOf g.D.Read.remaining c.args.document.now) (sym c.deref.ensures) c.in-Ok.ensures.text in
     λ tell. certain_outcome c.in_ok-outcome.outcome c.in_ok-outcome.bytes (c.in_ok-outcome.ensures.complete
@@ -46,7 +47,7 @@ returns-clause-schemas_running g c = none_failed c.args.schemas.now c.read_texts
 
 pub returns-clause-answers : goal.returns-clause-answers
 returns-clause-answers g c = record {
-  texts = map string_bytes c.in_ok-texts.texts.items;
+  texts = map rc_str_bytes c.in_ok-texts.texts.items;
   text = c.deref.result.now;
   bytes = parts_bytes c.in_ok-outcome.bytes;
   schemas_are = c.in_ok-texts.ensures.texts;

@@ -1,4 +1,4 @@
-use Rattle.std.proofs.Common.{ap, sym, subst}
+use Rattle.std.proofs.Common.{[], refl, ap, sym, subst}
 use Rattle.std.specs.Prelude.{IfOk, IfErr}
 use Rattle.std.proofs.lemmas.Result.{err_from_is_err_and, IfErr-weaker}
 use Rattle.book_validity.specs.in_verdict_definitions.Judge.{AreSchemasCertain}
@@ -12,36 +12,36 @@ use Rattle.graphql_checked.proofs.Verdicts.{texts_more, texts_all, add_refusal, 
 use Rattle.graphql_checked.proofs.verdict.schema_of.Goals as goal
 
 pub loop-text-preserved : goal.loop-text-preserved
-loop-text-preserved g c =
-    texts_more g.T.AsStr.text c.args.texts.now c.loop-text.text-index (first_terms c.args.limits.nesting) c.text-item.result c.as_str.result.now c.loop-text.checker c.add_schema.new.self
-    c.loop-text-test.true c.text-item.is c.as_str.ensures c.loop-text.invariant c.in_ok-add_schema.ensures.added
+loop-text-preserved c =
+    texts_more (λ t. t.now) c.args.texts.now c.loop-text.text-index (first_terms c.args.limits.nesting) (record { ref_ptr = (0, 0); now = [] }) _ c.loop-text.checker c.add_schema.new.self
+    c.loop-text-test.true refl c.loop-text.invariant c.in_ok-add_schema.ensures.added
 
 pub returns-in_err-add_schema-clause-refused : goal.returns-in_err-add_schema-clause-refused
-returns-in_err-add_schema-clause-refused g c =
+returns-in_err-add_schema-clause-refused c =
     let p = err_from_is_err_and c.from_residual.result c.from_residual.ensures.1 in
     let runs = ap (λ (checker : CheckerValue). checker.failed) c.loop-text.invariant in
     rw (p.1, p.2) (memory_refusal _ _ c.in_err-add_schema.field-0.0 (add_refusal c.loop-text.checker c.add_schema.new.self c.in_err-add_schema.field-0.0 runs c.in_err-add_schema.ensures.refused))
 
 pub returns-in_err-add_schema-clause-complete : goal.returns-in_err-add_schema-clause-complete
-returns-in_err-add_schema-clause-complete g c =
+returns-in_err-add_schema-clause-complete c =
     let p = err_from_is_err_and c.from_residual.result c.from_residual.ensures.1 in
     let runs = ap (λ (checker : CheckerValue). checker.failed) c.loop-text.invariant in
     rw (p.1, p.2) (λ certain. add_refusal c.loop-text.checker c.add_schema.new.self c.in_err-add_schema.field-0.0 runs c.in_err-add_schema.ensures.refused)
 
 pub returns-clause-schema : goal.returns-clause-schema
-returns-clause-schema g c =
-    let e = texts_all g.T.AsStr.text c.args.texts.now c.loop-text.text-index (first_terms c.args.limits.nesting) c.loop-text.checker c.loop-text-test.false c.loop-text.invariant in
+returns-clause-schema c =
+    let e = texts_all (λ t. t.now) c.args.texts.now c.loop-text.text-index (first_terms c.args.limits.nesting) c.loop-text.checker c.loop-text-test.false c.loop-text.invariant in
     subst (λ (checker : CheckerValue). IfOk c.finish.result (λ s. IsCheckedSchemaOf checker.terms checker.texts (schema_value s))) e c.finish.ensures.schema
 
 pub returns-clause-refused : goal.returns-clause-refused
-returns-clause-refused g c =
-    let e = texts_all g.T.AsStr.text c.args.texts.now c.loop-text.text-index (first_terms c.args.limits.nesting) c.loop-text.checker c.loop-text-test.false c.loop-text.invariant in
+returns-clause-refused c =
+    let e = texts_all (λ t. t.now) c.args.texts.now c.loop-text.text-index (first_terms c.args.limits.nesting) c.loop-text.checker c.loop-text-test.false c.loop-text.invariant in
     let runs = ap (λ (checker : CheckerValue). checker.failed) e in
     subst (λ (checker : CheckerValue). IfErr c.finish.result (RefusalOfSchemas checker.terms checker.texts)) e
     (IfErr-weaker c.finish.result (IsFinishRefusal c.loop-text.checker) (RefusalOfSchemas c.loop-text.checker.terms c.loop-text.checker.texts) (λ refusal h. finish_refusal c.loop-text.checker refusal runs h) c.finish.ensures.refused)
 
 pub returns-clause-complete : goal.returns-clause-complete
-returns-clause-complete g c =
-    let e = texts_all g.T.AsStr.text c.args.texts.now c.loop-text.text-index (first_terms c.args.limits.nesting) c.loop-text.checker c.loop-text-test.false c.loop-text.invariant in
+returns-clause-complete c =
+    let e = texts_all (λ t. t.now) c.args.texts.now c.loop-text.text-index (first_terms c.args.limits.nesting) c.loop-text.checker c.loop-text-test.false c.loop-text.invariant in
     let runs = ap (λ (checker : CheckerValue). checker.failed) e in
     IfErr-weaker c.finish.result _ _ (λ refusal h certain. h runs (subst (λ (checker : CheckerValue). AreSchemasCertain checker.terms checker.texts) (sym e) certain)) c.finish.ensures.complete

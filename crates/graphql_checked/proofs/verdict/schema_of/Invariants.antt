@@ -3,4 +3,4 @@ use Rattle.graphql_checked.specs.Verdicts.{first_terms}
 use Rattle.graphql_checked.proofs.verdict.schema_of.Given as goal
 
 abbrev pub invariant-loop-text : goal.invariant-loop-text
-invariant-loop-text g l = l.checker ≡ record { terms = first_terms l.fn.limits.nesting; texts = map g.T.AsStr.text (take l.text-index l.texts); failed = false }
+invariant-loop-text l = l.checker ≡ record { terms = first_terms l.fn.limits.nesting; texts = map (λ t. t.now) (take l.text-index l.texts); failed = false }

@@ -1,4 +1,4 @@
-use Rattle.std.proofs.Common.{ap, sym, subst}
+use Rattle.std.proofs.Common.{ap, sym, subst, ◌∙◌}
 use Rattle.std.specs.Prelude.{IfOk, IfErr}
 use Rattle.std.proofs.lemmas.Result.{err_from_is_err_and, IfErr-weaker}
 use Rattle.verdict_definitions.specs.Judge.{AreSchemasCertain}
@@ -15,7 +15,7 @@ use Rattle.graphql_checked_c.proofs.opening.schema_of.Goals as goal
 pub loop-text-preserved : goal.loop-text-preserved
 loop-text-preserved c =
     texts_more text_of c.args.texts.now c.loop-text.text-index (first_terms c.args.limits.nesting) c.text-item.result c.text.result.now c.loop-text.checker c.add_schema.new.self
-    c.loop-text-test.true c.text-item.is c.text.ensures c.loop-text.invariant c.in_ok-add_schema.ensures.added
+    c.loop-text-test.true (c.text.ensures ∙ ap text_of c.text-item.is) c.loop-text.invariant c.in_ok-add_schema.ensures.added
 
 pub returns-in_err-add_schema-clause-refused : goal.returns-in_err-add_schema-clause-refused
 returns-in_err-add_schema-clause-refused c =

@@ -1,35 +1,10 @@
-use Rattle.std.proofs.Common.{ℕ, List, sym, subst}
 use Rattle.std.proofs.lemmas.Result.{err_from_is_err_and}
 use Rattle.read_grammar.specs.Grammar.{Derives}
 use Rattle.read_types.specs.in_read_operations.Meanings.{in_file}
-use Rattle.graphql_read.specs.ReadFaults.{definitions_tree}
-use Rattle.graphql_read.specs.Reads.{HasTree, ReadsWithin}
 use Rattle.graphql_read.proofs.Texts.{memory_due}
-use Rattle.graphql_read.proofs.Soundness.{document_sound}
 use Rattle.graphql_read.proofs.document_call.parse_document.Goals as goal
 
 pub returns-in_err-shared-clause-fault : goal.returns-in_err-shared-clause-fault
 returns-in_err-shared-clause-fault c =
     let p = err_from_is_err_and c.from_residual.result c.from_residual.ensures.1 in
     rw (p.1, p.2) (memory_due (Derives (in_file c.args.file)) c.args.nesting c.args.text.now)
-
-pub returns-in_err-definitions-clause-only : goal.returns-in_err-definitions-clause-only
-returns-in_err-definitions-clause-only c = λ tree d.
-    let p = err_from_is_err_and c.from_residual-in_err-definitions.result c.from_residual-in_err-definitions.ensures.1 in
-    let same = subst (λ (text : List ℕ). ReadsWithin (Derives (in_file c.args.file)) c.args.nesting text tree) (sym c.in_ok-shared.ensures.ok) d in
-    rw (p.1, p.2) (c.in_err-definitions.ensures.only tree same)
-
-pub returns-in_err-sources-clause-fault : goal.returns-in_err-sources-clause-fault
-returns-in_err-sources-clause-fault c =
-    let p = err_from_is_err_and c.from_residual-in_err-sources.result c.from_residual-in_err-sources.ensures.1 in
-    rw (p.1, p.2) (memory_due (Derives (in_file c.args.file)) c.args.nesting c.args.text.now)
-
-pub returns-clause-only : goal.returns-clause-only
-returns-clause-only c = λ tree d.
-    c.in_ok-definitions.ensures.only tree (subst (λ (text : List ℕ). ReadsWithin (Derives (in_file c.args.file)) c.args.nesting text tree) (sym c.in_ok-shared.ensures.ok) d)
-
-pub returns-clause-sound : goal.returns-clause-sound
-returns-clause-sound c =
-    let tree = definitions_tree c.in_ok-definitions.definitions in
-    document_sound c.args.file c.args.text.now tree
-    (subst (λ (text : List ℕ). HasTree (Derives (in_file c.args.file)) text tree) c.in_ok-shared.ensures.ok c.in_ok-definitions.ensures.found.reads)

@@ -1,14 +1,23 @@
-use Rattle.std.proofs.Common.{◌<◌, ℕ, List, [], length, sym, subst, arith}
+use Rattle.std.proofs.Common.{◌<◌, ℕ, List, [], ◌∷◌, length, sym, subst, arith}
 use Rattle.std.proofs.lemmas.List.{take_all}
+use Rattle.std.specs.Result.{OnOk}
 use Rattle.std.proofs.lemmas.Result.{on_ok_weaker}
 use Rattle.rule_field_sets.specs.declared.member.Member.{Member}
 use Rattle.rule_field_groups.specs.Members.{fields_of, meant_sets}
 use Rattle.list_interner.specs.NumberRows.{rows_of}
 use Rattle.rule_field_groups.specs.Below.{AreSetsOf}
-use Rattle.rule_field_groups.specs.Under.{JoinsSets}
-use Rattle.rule_field_groups.proofs.Sets.{sets_begun, sets_step}
+use Rattle.rule_field_groups.specs.Under.{sets_in, AddsBelow, JoinsSets}
+use Rattle.rule_field_groups.proofs.Sets.{sets_begun, sets_step, two_items}
 use Rattle.rule_field_groups.proofs.Under.{below_pushed}
 use Rattle.rule_field_groups.proofs.below.push_below.Goals as goal
+
+pub returns-then-fields-eq2 : goal.returns-then-fields-eq2
+returns-then-fields-eq2 c =
+    let w = c.args.sets.now in
+    let one = c.index-fields-0.result in
+    let other = c.index-fields-1.result in
+    subst (λ (l : List Member). OnOk c.push_below_two.result (AddsBelow (fields_of l ∷ []) (sets_in w c.args.lists.now) (sets_in w c.push_below_two.new.lists)))
+    (two_items c.args.fields.now one other c.if-fields-eq2.true c.index-fields-0.is c.index-fields-1.is) c.push_below_two.ensures
 
 pub loop-field-init : goal.loop-field-init
 loop-field-init c = sets_begun c.args.sets.now c.new-nodes.result.items c.new-nodes.ensures.items

@@ -14,7 +14,7 @@ loop-node-preserved c =
     let h : i < length c.args.nodes.now = omega arith in
     let x = get_or c.args.nodes.now i 0 in
     let is : x ≡ get_or c.args.nodes.now i x = get_or_default c.args.nodes.now i 0 x h in
-    with_more c.args.last c.args.nodes.now i x h is (rows_of c.args.lists.now) (rows_of c.loop-node.lists) (rows_of c.push.new.self) c.loop-node.invariant c.in_ok-push.ensures.pushed
+    with_more c.args.last c.args.nodes.now i x h is (rows_of c.args.lists.now) (rows_of c.loop-node.lists) (rows_of c.push_two.new.self) c.loop-node.invariant c.in_ok-push_two.ensures.pushed
 
 pub returns : goal.returns
 returns c =

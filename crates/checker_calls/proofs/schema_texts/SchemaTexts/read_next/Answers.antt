@@ -1,4 +1,5 @@
 use Rattle.std.proofs.Common.{◌≡◌, ◌++◌, ◌∷◌, []}
+use Rattle.std.specs.Rc.{rc_str_bytes}
 use Rattle.std.proofs.lemmas.Result.{on_ok_weaker}
 use Rattle.verdict_definitions.specs.in_faults.DetailsView.{diagnostics_of}
 use Rattle.verdict_definitions.specs.Says.{spent}
@@ -13,6 +14,6 @@ pub returns-in-Err-clause-reading : goal.returns-in-Err-clause-reading
 returns-in-Err-clause-reading c =
     let old = c.args.self.now in
     let new = record old { files = c.next.new.self; unread = c.push.new.self } in
-    let told : diagnostics_of c.push.new.self ≡ diagnostics_of old.unread ++ spent ∷ [] → IsReadingOf (texts_of old ++ c.args.text.now ∷ []) new =
-    λ h. reading_of (texts_of old ++ c.args.text.now ∷ []) new old.files c.in-Err.ensures.unchanged (spent_kept old c.requires c.in-Err.ensures.spent c.args.text.now (diagnostics_of c.push.new.self) h) in
+    let told : diagnostics_of c.push.new.self ≡ diagnostics_of old.unread ++ spent ∷ [] → IsReadingOf (texts_of old ++ (rc_str_bytes c.args.text.now) ∷ []) new =
+    λ h. reading_of (texts_of old ++ (rc_str_bytes c.args.text.now) ∷ []) new old.files c.in-Err.ensures.unchanged (spent_kept old c.requires c.in-Err.ensures.spent (rc_str_bytes c.args.text.now) (diagnostics_of c.push.new.self) h) in
     on_ok_weaker c.push.result told c.push.ensures.added

@@ -1,8 +1,6 @@
-use Rattle.std.proofs.Common.{◌≡◌, ◌≤◌, List, Contains, [], ◌∷◌, length, map, sym, ap, subst, append-nil, arith}
+use Rattle.std.proofs.Common.{◌≡◌, ◌≤◌, Contains, [], ◌∷◌, length, map, sym, ap, subst, append-nil, arith}
 use Rattle.std.proofs.lemmas.Result.{IfOk-weaker}
-use Rattle.graphql_names.specs.Placed.{Place}
 use Rattle.list_interner.specs.NumberRows.{rows_of}
-use Rattle.rule_field_groups.specs.in_spec_document.MeantTree.{MeantOperation}
 use Rattle.rule_field_groups.proofs.in_definitions.Lists.{not_in_nil}
 use Rattle.rule_field_groups.specs.in_document_definitions.Limits.{chain_bound}
 use Rattle.rule_field_groups.specs.in_sets.in_reach.Broken.{brokens_of}

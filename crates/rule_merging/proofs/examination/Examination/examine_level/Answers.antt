@@ -1,4 +1,4 @@
-use Rattle.std.proofs.Common.{◌≡◌, ◌∙◌, ◌<◌, ◌≤◌, [], ◌∷◌, map, take, length, get_or, sym, ap, subst, arith}
+use Rattle.std.proofs.Common.{◌<◌, ◌≤◌, [], ◌∷◌, map, take, length, get_or, sym, ap, subst, arith}
 use Rattle.std.proofs.lemmas.List.{take_all, get_or_default}
 use Rattle.list_interner.specs.NumberRows.{rows_of}
 use Rattle.list_interner.specs.declared.number_rows.NumberRows.{NumberRows}
@@ -22,11 +22,8 @@ loop-place-init c =
       counted = grows_not (document_of e) (λ os. AreListed (document_of e) os (sets_in (sets_of e) c.args.level.now)) e.pass (account_of (sets_of e) c.args.examined.now);
     }
 
-pub returns-in_err-read-clause-counted : goal.returns-in_err-read-clause-counted
-returns-in_err-read-clause-counted c = c.loop-place.invariant.counted
-
-pub returns-in_err-examine_once-clause-counted : goal.returns-in_err-examine_once-clause-counted
-returns-in_err-examine_once-clause-counted c =
+pub returns-in_err-examine_at-clause-counted : goal.returns-in_err-examine_at-clause-counted
+returns-in_err-examine_at-clause-counted c =
     let e = c.args.self.now in
     let d = document_of e in
     let w = sets_of e in
@@ -34,12 +31,11 @@ returns-in_err-examine_once-clause-counted c =
     let i = c.loop-place.place in
     let x = get_or level i [] in
     let h : i < length level = omega arith in
-    grows_with d (λ os. AreListed d os (map (meant_sets w) level)) (λ os. AreListed d os (meant_sets w c.deref.result.now ∷ [])) e.pass
-    (account_of w c.args.examined.now) (account_of w c.loop-place.examined) (account_of w c.examine_once.new.examined)
+    grows_with d (λ os. AreListed d os (map (meant_sets w) level)) (λ os. AreListed d os (meant_sets w x ∷ [])) e.pass
+    (account_of w c.args.examined.now) (account_of w c.loop-place.examined) (account_of w c.examine_at.new.examined)
     c.loop-place.invariant.counted
-    (λ os listed. subst (λ l. AreListed d os (meant_sets w l ∷ [])) (sym (c.deref.ensures.value ∙ c.in_ok-read.ensures))
-    (one_listed d os (map (meant_sets w) level) (meant_sets w x) listed (contains_map (meant_sets w) level x (i, h, get_or_default level i x [] h))))
-    c.in_err-examine_once.ensures.counted
+    (λ os listed. one_listed d os (map (meant_sets w) level) (meant_sets w x) listed (contains_map (meant_sets w) level x (i, h, get_or_default level i x [] h)))
+    c.in_err-examine_at.ensures.counted
 
 pub loop-place-preserved : goal.loop-place-preserved
 loop-place-preserved c =
@@ -52,22 +48,18 @@ loop-place-preserved c =
     let h : i < length level = omega arith in
     let old = kept_of w c.args.examined.now in
     let mid = kept_of w c.loop-place.examined in
-    let new = kept_of w c.examine_once.new.examined in
+    let new = kept_of w c.examine_at.new.examined in
     let between = sets_in w c.loop-place.examined.next in
-    let last = sets_in w c.examine_once.new.examined.next in
-    let is = c.deref.ensures.value ∙ c.in_ok-read.ensures in
-    let here : ExaminesSets e (meant_sets w x ∷ []) mid new c.loop-place.breaches c.examine_once.new.breaches between last =
-    subst (λ l. ExaminesSets e (meant_sets w l ∷ []) mid new c.loop-place.breaches c.examine_once.new.breaches between last) is c.in_ok-examine_once.ensures.examined in
+    let last = sets_in w c.examine_at.new.examined.next in
     record {
-      examined = subst (λ ls. ExaminesSets e ls old new c.args.breaches.now c.examine_once.new.breaches [] last) (sym (front_more (meant_sets w) level i x h (get_or_default level i [] x h)))
-          (lists_step e.pass (schema_of e) d (brokens_of c.args.breaches.now) (brokens_of c.loop-place.breaches) (brokens_of c.examine_once.new.breaches) [] between last
-          (map (meant_sets w) (take i level)) (meant_sets w x ∷ []) old mid new c.loop-place.invariant.examined here);
-      counted = grows_with d (λ os. AreListed d os (map (meant_sets w) level)) (λ os. AreListed d os (meant_sets w c.deref.result.now ∷ [])) e.pass
-          (account_of w c.args.examined.now) (account_of w c.loop-place.examined) (account_of w c.examine_once.new.examined)
+      examined = subst (λ ls. ExaminesSets e ls old new c.args.breaches.now c.examine_at.new.breaches [] last) (sym (front_more (meant_sets w) level i x h (get_or_default level i [] x h)))
+          (lists_step e.pass (schema_of e) d (brokens_of c.args.breaches.now) (brokens_of c.loop-place.breaches) (brokens_of c.examine_at.new.breaches) [] between last
+          (map (meant_sets w) (take i level)) (meant_sets w x ∷ []) old mid new c.loop-place.invariant.examined c.in_ok-examine_at.ensures.examined);
+      counted = grows_with d (λ os. AreListed d os (map (meant_sets w) level)) (λ os. AreListed d os (meant_sets w x ∷ [])) e.pass
+          (account_of w c.args.examined.now) (account_of w c.loop-place.examined) (account_of w c.examine_at.new.examined)
           c.loop-place.invariant.counted
-          (λ os listed. subst (λ l. AreListed d os (meant_sets w l ∷ [])) (sym is)
-          (one_listed d os (map (meant_sets w) level) (meant_sets w x) listed (contains_map (meant_sets w) level x (i, h, get_or_default level i x [] h))))
-          c.in_ok-examine_once.ensures.counted;
+          (λ os listed. one_listed d os (map (meant_sets w) level) (meant_sets w x) listed (contains_map (meant_sets w) level x (i, h, get_or_default level i x [] h)))
+          c.in_ok-examine_at.ensures.counted;
     }
 
 pub returns-clause-examined : goal.returns-clause-examined

@@ -1,6 +1,5 @@
 use Rattle.std.proofs.Common.{Contains, sym, subst}
 use Rattle.std.proofs.lemmas.Result.{on_ok_weaker}
-use Rattle.rule_field_groups.specs.in_sets.declared.member.Member.{Member}
 use Rattle.rule_field_groups.specs.Below.{IsMergedIn}
 use Rattle.rule_field_groups.specs.Members.{meant_sets, AreMembersOf}
 use Rattle.rule_field_groups.specs.MergeState.{account_of, kept_of}

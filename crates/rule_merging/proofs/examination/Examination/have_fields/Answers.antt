@@ -1,4 +1,4 @@
-use Rattle.std.proofs.Common.{◌≡◌, ◌∙◌, ◌<◌, ◌≤◌, [], ◌∷◌, true, false, length, get_or, map, take, sym, subst, arith}
+use Rattle.std.proofs.Common.{◌∙◌, ◌<◌, ◌≤◌, [], ◌∷◌, true, false, length, get_or, map, take, sym, subst, arith}
 use Rattle.std.proofs.lemmas.List.{take_all, get_or_default}
 use Rattle.list_interner.specs.NumberRows.{rows_of}
 use Rattle.rule_field_groups.proofs.in_definitions.Lists.{not_in_nil}

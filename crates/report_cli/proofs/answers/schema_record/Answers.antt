@@ -1,0 +1,14 @@
+use Rattle.std.proofs.Common.{◌++◌, codes, decimal, map, string_bytes, ap, ◌∙◌}
+use Rattle.std.specs.Prelude.{◌==◌, if◌then◌else◌}
+use Rattle.report_cli.specs.Answers.{judged_text, schema_text}
+use Rattle.report_cli.proofs.Texts.{schema_made, made_as}
+use Rattle.report_cli.proofs.answers.schema_record.Goals as goal
+
+pub returns : goal.returns
+returns c =
+    let accepted = if c.args.faults == 0 then codes "true" else codes "false" in
+    let paths = string_bytes c.in_ok-paths.paths in
+    made_as c.format.result (codes "{\"schema\":[" ++ (paths ++ (codes "],\"accepted\":" ++ (accepted ++ (codes ",\"faults\":" ++ (decimal c.args.faults ++ codes "}\n"))))))
+    (schema_text (map string_bytes c.args.paths.now) c.args.faults)
+    (schema_made paths accepted c.args.faults ∙ ap (λ p. codes "{\"schema\":[" ++ p ++ codes "]" ++ judged_text c.args.faults) c.in_ok-paths.ensures)
+    c.format.ensures.ok

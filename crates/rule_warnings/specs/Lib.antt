@@ -1,0 +1,5 @@
+pub mod Deprecated
+pub mod Views
+pub mod Told
+pub mod Telling
+pub mod TellingDocuments

@@ -1,0 +1,85 @@
+//! Uses in arguments that are given.
+ghost use Rattle.std.specs.Prelude.{OnOk};
+ghost use Rattle.graphql_schema.specs.SchemaOf.{schema_tree};
+ghost use Rattle.rule_definitions.specs.Judged.{judged};
+ghost use Rattle.rule_warnings.specs.Told.{given_uses, directives_uses};
+ghost use Rattle.rule_warnings.specs.Telling.{Tells, kind_by, coordinate_by, plain_definitions, applied_directives, given_arguments, argument_uses_of, directive_uses_of};
+
+use crate::deprecated_use::DeprecatedUse;
+use crate::lookups::{argument_definition, directive_definition, inner_type};
+use crate::owner::Owner;
+use crate::tell::tell_use;
+use crate::values::tell_value;
+use graphql_names::Node;
+use graphql_schema::Schema;
+use std::alloc::AllocError;
+use tree_directives::{Argument, Directive, InputValueDefinition};
+
+/// Adds the use of an argument, and the uses in its value, by the first of these definitions that has its name.
+fn tell_argument(
+    schema: &Schema,
+    owner: Owner<'_>,
+    definitions: &[Node<InputValueDefinition>],
+    argument: &Node<Argument>,
+    uses: &mut Vec<DeprecatedUse>,
+) -> Result<(), AllocError>
+    ensures { OnOk result (Tells uses.old uses.new (argument_uses_of (judged (schema_tree schema.now)) owner.entry definitions.now argument.now)) }
+{
+    let given = argument.content();
+    let Some(definition) = argument_definition(definitions, &given.name) else {
+        return Ok(());
+    };
+    let defined = definition.content();
+    tell_use(owner, &given.name, &defined.directives, uses)?;
+    tell_value(schema, inner_type(defined), given.value.content(), uses)
+}
+
+/// Adds the uses of arguments, and those in their values, by these definitions.
+pub(crate) fn tell_given(
+    schema: &Schema,
+    owner: Owner<'_>,
+    definitions: &[Node<InputValueDefinition>],
+    given: &[Node<Argument>],
+    uses: &mut Vec<DeprecatedUse>,
+) -> Result<(), AllocError>
+    ensures { OnOk result (Tells uses.old uses.new (given_uses (judged (schema_tree schema.now)) (kind_by owner.entry) (coordinate_by owner.entry) (plain_definitions definitions.now) (given_arguments given.now))) }
+{
+    for argument in given {
+        tell_argument(schema, owner, definitions, argument, uses)?;
+    }
+    Ok(())
+}
+
+/// Adds the uses in the arguments of a directive.
+fn tell_directive(
+    schema: &Schema,
+    directive: &Node<Directive>,
+    uses: &mut Vec<DeprecatedUse>,
+) -> Result<(), AllocError>
+    ensures { OnOk result (Tells uses.old uses.new (directive_uses_of (judged (schema_tree schema.now)) directive.now)) }
+{
+    let directive = directive.content();
+    match directive_definition(schema, &directive.name) {
+        None => Ok(()),
+        Some(definition) => {
+            let definitions = definition.content().arguments.as_slice();
+            let given = directive.arguments.as_slice();
+            let owner = Owner::OfDirectiveArgument(&directive.name);
+            tell_given(schema, owner, definitions, given, uses)
+        }
+    }
+}
+
+/// Adds the uses in the arguments of directives.
+pub(crate) fn tell_directives(
+    schema: &Schema,
+    directives: &[Node<Directive>],
+    uses: &mut Vec<DeprecatedUse>,
+) -> Result<(), AllocError>
+    ensures { OnOk result (Tells uses.old uses.new (directives_uses (judged (schema_tree schema.now)) (applied_directives directives.now))) }
+{
+    for directive in directives {
+        tell_directive(schema, directive, uses)?;
+    }
+    Ok(())
+}
