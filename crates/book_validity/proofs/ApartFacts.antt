@@ -1,4 +1,4 @@
--- None has the name of one before it exactly where no two have one name; and so of what is given with the numbers of extensions, and without.
+-- No element has the name of an earlier one exactly when no two have the same name: with the numbers of extensions, and without.
 use Rattle.std.proofs.Common.{◌≡◌, ◌↔◌, ◌<◌, ℕ, zero, suc, Bool, true, false, List, [], ◌∷◌, ◌++◌, map, filter, flat_map, length, slice_get, refl, sym, ap, subst, ◌∙◌, Option, None, Some, option_map, option_to_list, Contains, if◌then◌else◌, arith}
 use Rattle.std.specs.Option.{option_map_or}
 use Rattle.std.proofs.lemmas.Option.{same_Some}
@@ -138,7 +138,7 @@ module _ (built_in : Definitions) (first : ℕ) (texts : Definitions) where
       by true = schema_extensions_alone (numbered first whole) ∙ ap schema_extensions (definitions_numbered first whole)
       by false = refl
 
-  -- ---- so names differ with the numbers of extensions exactly where they do without
+  -- ---- so names differ with the numbers of extensions exactly when they do without
 
   pub components_apart : {A : Type 0} (t : TypeDefinition Place) (of : TypeParts Place → List A) (name : A → List ℕ)
       → NoneRepeated (λ g. name g.it) (components of (numbered first whole) t) ↔ AreUnique name (flat_map of (parts_of built_in texts t))

@@ -1,4 +1,4 @@
--- A document is typed by the book exactly where no rule of typing is broken.
+-- A document is typed by the book exactly when no rule of typing is broken.
 use Rattle.std.proofs.Common.{◌≡◌, ◌⊎◌, ℕ, ◌+◌, ◌<◌, ◌≤◌, Bool, true, false, List, [], ◌∷◌, length, refl, sym, ap, subst, ◌∙◌, Option, None, Some, Contains, option_to_list, if◌then◌else◌, cond, inl, inr, is_some, true≢false, arith, length-append}
 use Rattle.std.specs.List.{flat_map, filter}
 use Rattle.std.specs.Option.{option_map}

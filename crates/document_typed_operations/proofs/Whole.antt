@@ -298,7 +298,7 @@ module _ {P : Type 0} (nested : Bool) (fs : Fragments P) (start : TypedSet P) wh
       (other_names i known.0 is (IsDistinct-head nat_eq i is apart) known.1)
       (once is known.1 (IsDistinct-tail nat_eq i is apart)))
 
-  -- what stands in the order is reached
+  -- each fragment in the order is reached
   order_reached : (is : List ℕ) → AllByRecursion (Known nested fs start) is → (f : NamedSet P) → Contains (flat_map (λ i. entry_if (slice_get fs i)) is) f → ReachedFragment nested fs start f
   order_reached [] known f h = absurd (not_in_nil f h)
   order_reached (i ∷ is) known f h = by (Contains-append_cases (known.0.fragment ∷ []) (flat_map (λ j. entry_if (slice_get fs j)) is) f (subst (λ (o : Option (NamedSet P)). Contains (entry_if o ++ flat_map (λ j. entry_if (slice_get fs j)) is) f) known.0.stands h)) (order_reached is known.1 f)
@@ -311,7 +311,7 @@ module _ {P : Type 0} (nested : Bool) (fs : Fragments P) (start : TypedSet P) wh
       by (inl e) further = this (Contains-cons known.0.fragment [] f e)
       by (inr e) further = further e
 
-  -- what stands at a place that is entered stands in the order
+  -- the fragment at each index that was entered is in the order
   order_has : (is : List ℕ) (i : ℕ) (f : NamedSet P) → has i is ≡ true → slice_get fs i ≡ Some f → Contains (flat_map (λ j. entry_if (slice_get fs j)) is) f
   order_has [] i f h at = absurd (true≢false (sym h))
   order_has (j ∷ js) i f h at = by (nat_eq i j) refl (order_has js i f)

@@ -24,7 +24,7 @@ use Rattle.document_typing.proofs.DocumentMeant.{optional, entries}
 
 -- ---- where it stands
 
--- a document with an operation of that name behind the others, or without one
+-- a document with this operation added: after the others with a name, or as the one without a name
 abbrev pub and_kept : {P : Type 0} → Option (Text P) → MeantOperation P → MeantDocument P → MeantDocument P
 and_kept None o d = record d { anonymous = Some o }
 and_kept (Some n) o d = record d { named = d.named ++ (n.it, o) ∷ [] }

@@ -102,7 +102,7 @@ module _ {A : Type 0} (symbol : Symbol A) (nesting : ℕ) (text : List ℕ) wher
   pub not_passed : (tree : A) → ReadsWithin symbol nesting text tree → NestingBound nesting text → ⊥
   not_passed tree d = within_all nesting text d.reads.tokens d.reads.lexed d.within
 
-  -- a fault that is due stands in the text
+  -- the place of a fault that is due is in the text
   pub stands_in : (fault : faults.Fault) → IsDue symbol nesting text fault → LiesIn text fault
   stands_in faults.Memory due = tt
   stands_in (faults.NoToken offset) due =
@@ -133,7 +133,7 @@ module _ {A : Type 0} (symbol : Symbol A) (nesting : ℕ) (text : List ℕ) wher
   passes_bound (Nesting offset) due = is_passed offset due
   passes_bound Memory due = tt
 
-  -- of a text that has a tree and does not pass the bound, no fault but want of memory is due
+  -- if the text has a tree and is within the bound, no fault but out of memory is due
   pub memory_alone : (fault : faults.Fault) → IsDue symbol nesting text fault → (tree : A) → HasTree symbol text tree → (NestingBound nesting text → ⊥) → fault ≡ faults.Memory
   memory_alone faults.Memory due tree r not = refl
   memory_alone (faults.NoToken offset) due tree r not =

@@ -122,7 +122,7 @@ module _ (s : SchemaTree Place) where
   abbrev stays : List ℕ × SchemaType Place → Bool
   stays e = not (is_dropped s e)
 
-  -- behind others, each of another name
+  -- after others, each with a different name
   keep_all : (done es : Entries (SchemaType Place)) → IsDistinct bytes_eq (keys_of es) → AllByRecursion (λ n. Absent n done) (keys_of es) → fold (and_kept s) done es ≡ done ++ filter stays es
   unfolding IsDistinct
   keep_all done [] u h = sym (append-nil done)
@@ -163,7 +163,7 @@ module _ (s : SchemaTree Place) where
   abbrev scalars_back : List (List ℕ) → Entries (SchemaType Place)
   scalars_back ns = map built_in_scalar (filter (is_missing s) ns)
 
-  -- behind others, each missing one of another name
+  -- after others, each missing one with a different name
   put_all : (done : Entries (SchemaType Place)) (ns : List (List ℕ)) → IsDistinct bytes_eq ns → AllByRecursion (λ n. is_missing s n ≡ true → Absent n done) ns → fold (and_missing s) done ns ≡ done ++ scalars_back ns
   unfolding IsDistinct
   put_all done [] u h = sym (append-nil done)
@@ -186,7 +186,7 @@ module _ (s : SchemaTree Place) where
   unfolding IsDistinct
   five_apart = ((refl, (refl, (refl, (refl, tt)))), ((refl, (refl, (refl, tt))), ((refl, (refl, tt)), ((refl, tt), (tt, tt)))))
 
-  -- what is kept, and behind it what is put back
+  -- what is kept, then what is put back
   pub validated_of : fold (and_missing s) (kept s).types scalar_names ≡ (validated s).types
   validated_of = put_all (kept s).types scalar_names five_apart (each scalar_names)
     where

@@ -30,7 +30,7 @@ added n ks = by (list_any (same_text name_text n) ks) refl
     by true t = sym (ap (λ b. if b then map name_text ks else map name_text ks ++ n.text ∷ []) (sym (any_text n ks) ∙ t))
     by false t = map-append name_text ks (n ∷ []) ∙ sym (ap (λ b. if b then map name_text ks else map name_text ks ++ n.text ∷ []) (sym (any_text n ks) ∙ t))
 
--- a look-up by a name of the same text
+-- a lookup by a name with the same text
 same_get : {X S : Type 0} (m : IndexMap NameValue X S) (k i : NameValue) → k.text ≡ i.text → get (same_text name_text) m i ≡ get (same_text name_text) m k
 same_get m k i e = ap (λ t. lookup (λ (x : NameValue). bytes_eq t x.text) m.entries) (sym e)
 

@@ -21,7 +21,7 @@ module _ {X : Type 0} where
   pub in_rest : (x : X) (xs : List X) (y : X) → Contains xs y → Contains (x ∷ xs) y
   in_rest x xs y c = let i = index_found xs y c in index_given (x ∷ xs) (suc i.0) y i.1
 
-  -- none stands among those behind it
+  -- none is among those after it
   abbrev pub Apart : List X → Type 0
   Apart [] = Unit {0}
   Apart (x ∷ xs) = (Contains xs x → ⊥) × Apart xs
@@ -50,7 +50,7 @@ module _ {X : Type 0} where
     apart_append xs ys a.1 b (λ y c d. none y (in_rest x xs y c) d),
   )
 
-  -- a list without what stands at a place
+  -- a list without the element at an index
   abbrev without : List X → ℕ → List X
   without [] k = []
   without (y ∷ ys) zero = ys

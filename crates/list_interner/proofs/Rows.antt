@@ -179,7 +179,7 @@ rows_more from (r ∷ rows) (suc i) high low old new at lt is le is_out is_in sa
     (IsPermutation-sym (before ++ with_first high low ∷ behind) (with_first high low ∷ (before ++ behind)) (IsPermutation-middle before (with_first high low) behind))
     (IsPermutation-append_right before (with_first high low ∷ behind) (pairs_from (from + 1) (set rows i new)) rest)
 
--- a pair stands in the row of its greater number
+-- a pair is in the row of its greater number
 pub of_rows : (from : ℕ) (rows : List Bits) (d : Bits) (p : ℕ × ℕ) → Contains (pairs_from from rows) p
     → (i : ℕ) × ((from + i ≡ p.0) × ((i < length rows) × ((p.1 ≤ p.0) × (has (get_or rows i d) p.1 ≡ true))))
 of_rows from [] d p c = not_in_nil p c

@@ -1,4 +1,4 @@
--- What stands at numbers of a table: lists of numbers and lists of what they number have the same members alike.
+-- What a table has at given numbers: lists of numbers have the same members exactly when the lists of what they number have.
 use Rattle.std.proofs.Common.{◌≡◌, ◌⊎◌, ◌∙◌, ℕ, suc, ◌<◌, Bool, true, List, [], ◌∷◌, ◌++◌, map, length, get_or, slice_get, Some, Contains, refl, sym, ap, subst, length-append, arith, inl, inr}
 use Rattle.std.specs.Option.{option_map}
 use Rattle.std.specs.List.{swap}
@@ -64,7 +64,7 @@ module _ {X : Type 0} where
       at : (n m : ℕ) → slice_get now n ≡ Some x → m < length l → get_or now n x ≡ get_or l m x → slice_get l m ≡ Some x
       at n m e low same = slice_get-get_or l m x low ∙ ap (λ y. Some y) (sym same ∙ get_or_from_slice_get now n x x e)
 
-      -- where what stands at n now stood before
+      -- where what is now at n was before
       from : (n : ℕ) → slice_get now n ≡ Some x → (n ≡ i) ⊎ (n ≡ i → ⊥) → (n ≡ j) ⊎ (n ≡ j → ⊥)
           → (m : ℕ) × ((slice_get l m ≡ Some x) × (((n ≡ i) × (m ≡ j)) ⊎ (((n ≡ j) × (m ≡ i)) ⊎ ((n ≡ i → ⊥) × ((n ≡ j → ⊥) × (m ≡ n))))))
       from n e (inl p) q = (j, (at n j e in_j (ap (λ m. get_or now m x) p ∙ is.0), inl (p, refl)))
@@ -90,11 +90,11 @@ module _ {X : Type 0} where
           ends m n e (inr (inr (u, (v, w)))) (inr (inl (g', w'))) = absurd (u (sym w ∙ e ∙ w'))
           ends m n e (inr (inr (u, (v, w)))) (inr (inr (u', (v', w')))) = sym w ∙ e ∙ w'
 
-  -- in another order nothing stands in it twice either
+  -- a list without repeats has none in another order
   pub no_repeat_order : (xs ys : List X) → IsPermutation xs ys → HasNoRepeat xs → HasNoRepeat ys
   no_repeat_order xs ys p apart = IsPermutation-keeps xs HasNoRepeat apart exchanged ys p
 
--- ---- what stands at places
+-- ---- what a table has at given indices
 
 none_within : (places : List ℕ) → ((n : ℕ) → Contains places n → n < 0) → places ≡ []
 none_within [] w = refl
@@ -164,7 +164,7 @@ module _ {T X : Type 0} (eq : T → T → Bool) (content : T → X) (sound : (a 
     | inr r ↦ numbers_within table xs ms h.1 n r
   ]
 
-  -- what stands at the numbers is what the items say
+  -- what the table has at the numbers is what the items say
   pub numbered_so : (table items : List T) (numbers : List ℕ) → AreNumbersIn eq table items numbers → at_places (map content table) numbers ≡ map content items
   numbered_so [] [] [] h = refl
   numbered_so [] [] (n ∷ ns) h = absurd h
@@ -215,7 +215,7 @@ of_table eq table (x ∷ xs) (m ∷ ms) h n c = elim (Contains-cons m ms n c) [
   | inr r ↦ of_table eq table xs ms h.1 n r
 ]
 
--- ---- what is remembered of what stands at numbers
+-- ---- which lists of what is at given numbers are remembered
 
 module _ {X : Type 0} where
   -- one of these lists has the same members

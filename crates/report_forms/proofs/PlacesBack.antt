@@ -105,7 +105,7 @@ none_behind text start column reached place way not_yet from off k is = elim (le
     clash true p q = cc
     clash false p q = cc
 
--- behind the end no place has another column
+-- if the end of the text does not have the column, no place has it
 pub none_at_end : (text : List ℕ) (start column reached : ℕ) → IsOnTheWay text start column reached (length text) → reached ≢ column → (k : ℕ) → ¬ IsColumn text start column k
 none_at_end text start column reached way not_yet k is = elim (leb_tells (suc k) (length text)) [
   | inl h ↦ way.passed k (omega (arith, h.1)) is

@@ -188,7 +188,7 @@ module _ (prefix : Prefix) (level : ℕ) (white : is_white_prefix prefix ≡ tru
       tells (λ n. optional_unless is_open_brace (roots meaning n)) (nodes_of unplaced_root) (λ rs. 1) ends_definition refl (one_roots meaning)
       (λ rs. set_text prefix level (texts_of root_text rs)) (λ rs. ap (set_text prefix level) (roots_set_same rs)) (λ rs n h w le. some_roots_read rs n h le)
 
--- ---- default values, and names behind a word or a sign
+-- ---- default values, and names after a word or a sign
 
 pub equal_default_value : TextTells (Option (Placed Place (ValueTree Place))) default_well_formed default_writable default_text (option_map (unplaced_node unplaced_value))
 equal_default_value =

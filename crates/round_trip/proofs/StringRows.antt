@@ -45,7 +45,7 @@ beyond : Quoted (195 ∷ 169 ∷ 255 ∷ []) (34 ∷ 195 ∷ 169 ∷ 255 ∷ 34 
 unfolding joined token_at string_at quoted_len run_len part_len string_value replaced part_at
 beyond = (refl, refl, refl)
 
--- the empty text alone minds what is behind it: a third quotation mark begins a block string
+-- only for the empty text it matters what follows: a third quotation mark begins a block string
 third_mark : token_at (quoted_text [] ++ 34 ∷ []) ≡ None
 unfolding joined token_at string_at block_len run_len
 third_mark = refl
