@@ -22,7 +22,7 @@ use Rattle.book_validity.specs.Words.{AreUnique}
 use Rattle.book_validity.specs.Folding.{schema_parts, parts_of}
 use Rattle.book_validity.proofs.Naming.{same_index, not_below}
 
--- ---- by places, and by what stands before
+-- ---- by index, and by what comes before
 
 module _ {X : Type 0} where
   stands_more : (xs ys : List X) (i : ℕ) (x : X) → slice_get xs i ≡ Some x → slice_get (xs ++ ys) i ≡ Some x
@@ -39,7 +39,7 @@ module _ {X : Type 0} where
   stands_after (z ∷ xs) zero y e = ([], (xs, ap (λ w. w ∷ xs) (same_Some z y e)))
   stands_after (z ∷ xs) (suc j) y e = let (before, (after, is)) = stands_after xs j y e in (z ∷ before, (after, ap (λ l. z ∷ l) is))
 
-  -- and so it does after each that stands earlier
+  -- and each earlier one is among those before it
   stands_after_it : (xs : List X) (i j : ℕ) (x y : X) → slice_get xs i ≡ Some x → slice_get xs j ≡ Some y → i < j → (before : List X) × (StandsAfter xs before y × Contains before x)
   stands_after_it [] i j x y e f less = cc
   stands_after_it (z ∷ xs) i zero x y e f less = absurd (omega (arith, less))

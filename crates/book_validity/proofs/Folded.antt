@@ -70,7 +70,7 @@ module _ (first : ℕ) (texts : Definitions) where
   abbrev looks_of : TypeDefinition Place → TypeLooks
   looks_of t = type_looks (plain_type (folded_type (numbered first all) t))
 
-  -- under a name stands what its first definition folds to
+  -- under a name is what its first definition folds to
   named : (n : List ℕ) → (judged schema).type_named n ≡ option_map looks_of (defined n)
   named n = named_type schema n
       ∙ ap (option_map (λ v. type_looks (plain_type v))) (under_made type_name (folded_type (numbered first all)) n (firsts type_name (types_in all)) ∙ ap (option_map (folded_type (numbered first all))) (find_firsts type_name n (types_in all)))

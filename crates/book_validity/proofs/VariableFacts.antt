@@ -32,7 +32,7 @@ use Rattle.rule_document_definitions.proofs.Spreading.{at_reached, at_reached_fr
 abbrev U : Type 0
 U = Unit {0}
 
--- ---- whether a variable stands there
+-- ---- whether a variable is there
 
 module _ (n : List ℕ) where
   mutual

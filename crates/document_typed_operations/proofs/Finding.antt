@@ -1,4 +1,4 @@
--- What stands where a name is found, and membership in lists.
+-- What is found under a name, and membership in lists.
 use Rattle.std.proofs.Common.{◌≡◌, ◌+◌, ◌<◌, ◌⊎◌, inl, inr, ℕ, zero, suc, Bool, true, false, List, [], ◌∷◌, map, length, get_or, refl, ap, sym, ◌∙◌, subst, arith, true≢false, Contains}
 use Rattle.std.specs.Prelude.{Option, Some, None, is_some, unwrap_or, slice_get, cond, not, nat_lt}
 use Rattle.std.specs.List.{position, position_from, prefix_len, find}

@@ -74,7 +74,7 @@ module _ {P : Type 0} where
       ap (λ l. l ++ left_behind w (bare_selections l)) inside
       ∙ ap (λ ns. (ty, s) ∷ (pending_members (after s w) ++ left_in_fragments w.nested w.fragments (length w.fragments - w.entered) ns w.entered)) (names_noted w s (bare_selections (pending_members (after s w))))
 
-  -- a walk that stands where it has passed the selection
+  -- a walk that has just passed the selection
   pub has_passed : (e : Member P) (old new : WalkState P) → new ≡ after e.1 old → HasPassed e old new
   has_passed e old new is = subst (λ w. HasPassed e old w) (sym is) (record {
     passed = passed e old;

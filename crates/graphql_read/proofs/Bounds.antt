@@ -1,4 +1,4 @@
--- Where the tokens of a text stand, and when the bound of nesting is passed.
+-- Where the tokens of a text are, and when the bound of nesting is passed.
 use Rattle.std.proofs.Common.{◌≡◌, ℕ, ◌+◌, ◌-◌, ◌<◌, ◌≤◌, List, [], ◌∷◌, ◌++◌, length, take, drop, Option, Some, None, refl, sym, ap, subst, ◌∙◌, arith, append_assoc}
 use Rattle.std.proofs.lemmas.List.{length-drop}
 use Rattle.read_tokens.specs.Input.{Token, Ending, Ended, NoTokenAt}
@@ -16,7 +16,7 @@ use Rattle.graphql_read.specs.declared.fault.ReadFault.{ReadFault}
 use Rattle.graphql_read.specs.declared.fault.ReadFault.TheVariants.{Syntax, Nesting, Memory}
 use Rattle.graphql_read.proofs.Endings.{no_piece_of_none, same_piece, ends_whole}
 
--- ---- fronts of a text
+-- ---- prefixes of a text
 
 -- these tokens begin those
 abbrev Begin : List Token → List Token → Type 0
@@ -53,7 +53,7 @@ ends_front : (text : List ℕ) (tokens : List Token) (ending : Ending) → EndsA
 ends_front text tokens (Ended at) ends = ([], ends.1)
 ends_front text tokens (NoTokenAt at) ends = (drop at text, ends.0)
 
--- ---- where tokens stand
+-- ---- where tokens are
 
 -- a token begins before the end of the text
 token_within : (ps : List Piece) (text behind : List ℕ) (at : ℕ) (front rest : List Token) (token : Token) → ArePieces ps text behind → tokens_among ps text at ≡ front ++ token ∷ rest → token.offset < at + length text

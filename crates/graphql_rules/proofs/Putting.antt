@@ -1,4 +1,4 @@
--- Types that are put under names one after another are what a validated schema has, where no two stand under one name.
+-- Types that are put under names one after another are what a validated schema has, if no two have the same name.
 use Rattle.std.proofs.Common.{◌≡◌, ℕ, Bool, true, false, cond, not, ◌&&◌, ◌||◌, List, [], ◌∷◌, ◌++◌, map, filter, fold, bytes_eq, is_none, Option, None, Some, option_map, refl, sym, ap, subst, ◌∙◌, true≢false, if◌then◌else◌}
 use Rattle.std.specs.List.{list_any, IsDistinct, AllByRecursion, find}
 use Rattle.std.specs.Map.{keys_of, values_of}
@@ -75,7 +75,7 @@ module _ {X A : Type 0} (f : X → A) (k : NameValue) (v : X) where
       by true rest = refl
       by false rest = ap (λ l. (name_text e.0, f e.1) ∷ l) rest
 
--- none of these stands under the name
+-- none of these is under the name
 abbrev pub Absent : {A : Type 0} → List ℕ → Entries A → Type 0
 Absent n es = AllByRecursion (λ m. bytes_eq n m ≡ false) (keys_of es)
 

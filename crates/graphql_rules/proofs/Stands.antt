@@ -1,4 +1,4 @@
--- What is told of stands somewhere.
+-- What is told of has a place.
 use Rattle.std.proofs.Common.{◌≡◌, ℕ, ◌+◌, ◌-◌, ◌^◌, ◌<◌, ◌≤◌, ◌⊎◌, refl, sym, ap, subst, inl, inr, None, Some, zero, suc, arith}
 use Rattle.graphql_names.specs.Placed.{Place}
 use Rattle.graphql_names.specs.Places.{span_end, RecomposesBoth, Recomposes}

@@ -52,7 +52,7 @@ noted m n k x o new named was is writes i = by (bytes_eq k.text i.text) refl
         ap (option_map implementers_tree) (writes i ∙ ap (λ b. cond b (Some new) (get (same_text name_text) m i)) t)
         ∙ sym (ap (λ b. if b then Some (and_type x.is_object x.type (unwrap_or (implementers_at m i) nobody)) else implementers_at m i) (ap (λ t. bytes_eq t i.text) named ∙ t))
 
--- the implementers that stand there, or nobody
+-- the implementers that are there, or none
 pub or_nobody : (o : Option Implementers) (d : Implementers) → implementers_tree d ≡ nobody → implementers_tree (unwrap_or o d) ≡ unwrap_or (option_map implementers_tree o) nobody
 or_nobody None d e = e
 or_nobody (Some x) d e = refl

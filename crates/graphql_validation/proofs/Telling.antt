@@ -66,7 +66,7 @@ module _ (faults : List PlacedFault) (breaches : List (Broken Place)) (is_passed
     ]
   ]
 
--- the bound stands without a place
+-- the bound is told without a place
 pub bound_is : (is_passed : Bool) (f : PlacedDocumentFault) → Contains (bound_told is_passed) f → IsTrue is_passed × (f ≡ OfLimit None)
 bound_is false f c = absurd (not_in_nil f c)
 bound_is true f c = (refl, only (OfLimit None) f c)

@@ -80,7 +80,7 @@ module _ {X : Type 0} where
       as_long xs (without ys i.0) apart.1 (λ y c. stays ys i.0 x y i.1 (λ e. apart.0 (subst (Contains xs) e c)) (within y (in_rest x xs y c))) in
       omega (arith, less, length_without ys i.0 x i.1)
 
-  -- a list in which nothing stands twice is no longer than one that has all of it
+  -- a list without repeats is no longer than one that has all its members
   pub no_longer : (xs ys : List X) → HasNoRepeat xs → ((x : X) → Contains xs x → Contains ys x) → length xs ≤ length ys
   no_longer xs ys apart = as_long xs ys (apart_from xs apart)
 

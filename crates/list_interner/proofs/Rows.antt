@@ -203,7 +203,7 @@ rows_apart from (r ∷ rows) = apart_append (pairs_of_row from r) (pairs_from (f
 
 -- ---- pairs that are kept
 
--- each stands there once, with its greater number first
+-- each is there once, with its greater number first
 pub kept_once : (p : NumberPairs) → HasNoRepeat (pairs_kept p)
 kept_once p = from_apart (pairs_kept p) (rows_apart 0 p.rows.items)
 
@@ -313,7 +313,7 @@ in_below (suc m) p le lt = elim (cases_eq p.0 m) [
 pub few_pairs : (pairs : List (ℕ × ℕ)) → HasNoRepeat pairs → ((p : ℕ × ℕ) → Contains pairs p → p.1 ≤ p.0) → AreFew pairs
 few_pairs pairs once ordered = λ m below. omega (arith, no_longer pairs (pairs_below m) once (λ p c. in_below m p (ordered p c) (below p c).0), length_below m)
 
--- and in whatever order the two stand
+-- and whichever of its two numbers is first
 pub few_in_any_order : (pairs : List (ℕ × ℕ)) (m : ℕ) → HasNoRepeat pairs → ((p : ℕ × ℕ) → Contains pairs p → (p.0 < m) × (p.1 < m)) → length pairs ≤ m * m
 few_in_any_order pairs m once below =
     let all = range_with_len 0 m in

@@ -106,7 +106,7 @@ module _ {X : Type 0} where
   place_has [] places n w c = absurd (omega (arith, w n c))
   place_has (x ∷ xs) places n w c = (get_or (x ∷ xs) n x, (slice_get-get_or (x ∷ xs) n x (w n c), in_map (λ m. get_or (x ∷ xs) m x) places n c))
 
-  -- and what stands there has a place
+  -- and what is there has an index
   pub has_place : (table : List X) (places : List ℕ) (y : X) → AreWithin table places → Contains (at_places table places) y → (n : ℕ) × (Contains places n × (slice_get table n ≡ Some y))
   has_place [] places y w c = not_in_nil y c
   has_place (x ∷ xs) places y w c =
@@ -137,12 +137,12 @@ module _ {X : Type 0} where
   places_order [] xs ys p = IsPermutation-refl []
   places_order (x ∷ rest) xs ys p = IsPermutation-map (λ n. get_or (x ∷ rest) n x) xs ys p
 
-  -- places of things of which none stands there twice
+  -- indices of things without a repeat have none
   pub places_apart : (table : List X) (places : List ℕ) → AreWithin table places → HasNoRepeat (at_places table places) → HasNoRepeat places
   places_apart [] places w apart = subst HasNoRepeat (sym (none_within places w)) (λ i j n h k. absurd (omega (arith, slice_get_within [] i n h)))
   places_apart (x ∷ xs) places w apart = no_repeat_before (λ n. get_or (x ∷ xs) n x) places apart
 
-  -- where the same things stand at two lists of places of a table in which nothing stands twice, the places are the same
+  -- if two lists of indices of a table without repeats lead to the same things, they have the same indices
   pub places_same : (table : List X) (xs ys : List ℕ) → HasNoRepeat table → AreWithin table xs → AreWithin table ys → HaveSame (at_places table xs) (at_places table ys) → HaveSame xs ys
   places_same table xs ys apart in_x in_y same n = (one xs ys in_x in_y (λ z. (same z).0), one ys xs in_y in_x (λ z. (same z).1))
     where
@@ -194,7 +194,7 @@ module _ {X : Type 0} where
   pub all_same : (table : List X) (old new : List (List ℕ)) → new ≡ old → AllWithin table old → AllWithin table new
   all_same table old new is all l c = all l (subst (λ ls. Contains ls l) is c)
 
-  -- in a table that is longer the same stands there
+  -- a longer table has the same there
   pub all_stay : (table more : List X) (lists : List (List ℕ)) → AllWithin table lists → map (at_places (table ++ more)) lists ≡ map (at_places table) lists
   all_stay table more [] all = refl
   all_stay table more (l ∷ ls) all = λ i. places_stay table more l (all l (first l ls)) i ∷ all_stay table more ls (λ k c. all k (rest l ls k c)) i

@@ -40,7 +40,7 @@ module _ {A : Type 0} {k : Bool} {r : Rule A} {p : Parser A} {f : Test} (passes 
       let w = grows (put i (g.0 ++ o.ahead)) x (put o o.ahead) (g.3 o.ahead (inr refl)) e in
       (w.taken, g.1 ∙ w.parts, λ rest fo. let c = w.more rest fo in (c.0, c.1, tt, c.2))
 
-  -- what stands before the rest begins as the whole does, where the rest is shorter
+  -- what comes before the rest begins as the whole does, if the rest is shorter
   begins_split : (stop : ParseError) (ahead rest more s others : List Token) → more ≡ s ++ rest → length rest ≤ length others → Starts stop ahead rest more → Starts stop ahead rest (s ++ others)
   begins_split Nesting ahead rest more [] others e le h = let len = ap (λ (ts : List Token). length ts) (sym e ∙ h.4) in let k = h.5 in absurd (omega (arith, len))
   begins_split Nesting ahead rest more (x ∷ s) others e le h =

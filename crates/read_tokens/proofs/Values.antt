@@ -50,7 +50,7 @@ replaced_step rule b bytes some = ap (λ (rest : List ℕ). (rule (b ∷ bytes))
 abbrev pub Keeps : (List ℕ → List ℕ × ℕ) → Type 0
 Keeps rule = (b : ℕ) (bytes : List ℕ) → is_plain b ≡ true → rule (b ∷ bytes) ≡ (b ∷ [], 1)
 
--- what stands before a backslash is kept
+-- what comes before a backslash is kept
 pub replaced_plain : (rule : List ℕ → List ℕ × ℕ) → Keeps rule → (bytes : List ℕ) → replaced rule 0 bytes ≡ take (prefix_len is_plain bytes) bytes ++ replaced rule 0 (drop (prefix_len is_plain bytes) bytes)
 unfolding replaced
 replaced_plain rule keeps [] = refl

@@ -33,7 +33,7 @@ last_start-is text (suc n) = elim (ends_line text (suc n)) as (λ b. ends_line t
   }
 ] refl
 
--- they end with the last, and before it stand as many as line terminators end
+-- they end with the last, and before it are as many as line terminators end
 pub record EndWithLast (text : List ℕ) (n : ℕ) : Type 0 where
   pub front : List ℕ
   pub split : starts_up_to text n ≡ front ++ last_start text n ∷ []

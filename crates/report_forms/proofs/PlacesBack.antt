@@ -12,7 +12,7 @@ use Rattle.report_forms.proofs.LineStarts.{ends_line-beyond, ends_character-beyo
 pub counted_from_start : (text : List ℕ) (place start : ℕ) → IsLineStart text place start → how_many (ends_line text) 0 place ≡ how_many (ends_line text) 0 start
 counted_from_start text place start is = how_many-none (ends_line text) 0 start place is.before is.last
 
--- up to a start more of them end than up to what stands before it
+-- more line terminators end up to the start of a line than up to any place before it
 more_at_start : (text : List ℕ) (early late : ℕ) → early < late → (late ≢ 0 → ends_line text late ≡ true) → how_many (ends_line text) 0 early < how_many (ends_line text) 0 late
 more_at_start text early zero less begins = absurd (omega arith)
 more_at_start text early (suc n) less begins =

@@ -38,7 +38,7 @@ use Rattle.round_trip.proofs.TypeDefinitions.{scalar_read, union_read, object_re
 use Rattle.round_trip.proofs.Schemas.{schema_read, schema_extension_read}
 use Rattle.round_trip.proofs.DirectiveDefinitions.{directive_with, directive_definition_read}
 
--- what ends words stands before a definition
+-- what may come before the end of a word may come before a definition
 before_definition : {A : Type 0} {r : Rule A} {says : A → Type 0} {a : List ℕ} → Printed r says ends_word a → Printed r says ends_definition a
 before_definition p = before_less ends_definition (λ behind fine. (and_parts (ends_word behind) (begins_definition behind) fine).0) p
 

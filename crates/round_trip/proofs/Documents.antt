@@ -25,7 +25,7 @@ use Rattle.round_trip.proofs.Sequences.{as_text, ignored, no_more, more, one_or_
 use Rattle.round_trip.proofs.Lines.{start_ignored}
 use Rattle.round_trip.proofs.Definitions.{definition_read}
 
--- ---- what stands between definitions
+-- ---- what is between definitions
 
 between_ignored : (prefix : Prefix) → list_all is_ignored_byte (between_text prefix) ≡ true
 between_ignored None = refl

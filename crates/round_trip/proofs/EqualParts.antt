@@ -110,7 +110,7 @@ equal_variables =
     tells (λ n. optional (variable_definitions meaning n)) (nodes_of unplaced_variable_definition) variables_depth ends_word refl (one_variables meaning)
     variables_text variables_same (λ vs n h w le. variables_read meaning literals_read vs n h w le)
 
--- ---- what stands under a layout
+-- ---- texts under a layout
 
 -- of one selection alone
 abbrev first_of : SelectionTrees (Unit {0}) → SelectionTree (Unit {0}) → SelectionTree (Unit {0})

@@ -37,7 +37,7 @@ module _ {A : Type 0} {r : Rule A} {says : A → Type 0} {f : Follow} {a : List 
         };
   }
 
-  -- what may stand before anything
+  -- what may come before anything
   pub before_any : Printed r says any a → Printed r says f a
   before_any p = record { stands = λ behind at others fine lexed. p.stands behind at others refl lexed }
 
@@ -133,7 +133,7 @@ module _ {A : Type 0} {r : Rule A} {says : A → Type 0} {f : Follow} {a : List 
         };
   }
 
-  -- what is said of the tree, wherever it stands
+  -- what is said of the tree, wherever it is
   pub placed : {P : Type 0} (m : Meaning P) → Printed r says f a → Printed (rule.placed m r) (λ x. says x.it) f a
   placed m p = record {
     stands = λ behind at others fine lexed.
