@@ -24,7 +24,7 @@ module _ {X : Type 0} (Fit : X → X → Type 0) {First : X → Type 0} {Next : 
 module _ {P : Type 0} where
   -- ---- a selection, and where it is more
 
-  -- y is on the same type, and x is part of it
+  -- x is part of y, which is on the same type
   abbrev pub Fits : Standing P → Standing P → Type 0
   Fits x y = (q : Position) × ((m : MeantSelection P) × ((y ≡ record { position = q; parent = x.parent; it = m }) × IsPartOfSelection x.it m))
 
