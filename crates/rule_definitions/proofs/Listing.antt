@@ -11,7 +11,7 @@ use Rattle.schema_types.proofs.in_components.Places.{each_place-push}
 use Rattle.rule_cycle_search.proofs.Lists.{not_in_nil, only, is_only}
 use Rattle.rule_definitions.specs.Words.{Present, AtSomeIndex}
 
--- what holds at some index of a list with one more element holds at an index before it, or of that element
+-- what holds at some index of a list with one more element holds at an earlier index, or of that element
 module _ {X : Type 0} where
   pub index_append : (ys : List X) (y : X) (R : ℕ → X → Type 0) → AtSomeIndex (ys ++ y ∷ []) R ↔ (AtSomeIndex ys R ⊎ R (length ys) y)
   index_append [] y R = (λ h. by h.0 h.1.0 h.1.1.0 h.1.1.1, λ q. elim q [ inl h ↦ cc | inr r ↦ (0, (y, (refl, r))) ])

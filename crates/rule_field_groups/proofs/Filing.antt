@@ -135,12 +135,12 @@ module _ {X : Type 0} where
           behind : count (set_value test es w) ≡ count es + n → count (e ∷ set_value test es w) ≡ count (e ∷ es) + n
           behind more = omega (arith, more, first e (set_value test es w), first e es)
 
-  -- after those that are under a name
+  -- one item is added after those under a name
   pub count_pushed : (test : NameValue → Bool) (old new : List (NameValue × Vec X Global)) (v w : Vec X Global) (item : X) → lookup test old ≡ Some v → w.items ≡ v.items ++ item ∷ [] → new ≡ set_value test old w
       → count new ≡ count old + 1
   count_pushed test old new v w item found added is = ap count is ∙ written test w 1 old v found (one_more w v.items item added)
 
-  -- where nothing stands under it
+  -- where nothing is under it
   pub count_new : (name : NameValue) (w : Vec X Global) (item : X) → w.items ≡ item ∷ [] → (es new : List (NameValue × Vec X Global)) → new ≡ es ++ (name, w) ∷ [] → count new ≡ count es + 1
   count_new name w item is es new e = ap count e ∙ behind es
     where

@@ -245,7 +245,7 @@ module _ (pass : Pass) (s : Judged) (d : MeantDocument Place) where
   pub together_more : (old new : List (List ReadField)) → HasMore old new → (x y : ReadField) → StandTogether pass s old x y → StandTogether pass s new x y
   together_more old new more x y h t = stand_more old new more x y (h t)
 
-  -- two fields that are in one of more lists were so before, or are fresh
+  -- two fields that are in one of the new lists were in one of the old ones, or are fresh
   pub moved_lists : (o : MeantOperation Place) (Left Later : ReadField → ReadField → Type 0) (old new : List (List ReadField)) → HasMore old new
       → ((f g : ReadField) → Left f g → StandTogether pass s new f g ⊎ Later f g)
       → ((f g : ReadField) → StandIn new f g → StandIn old f g ⊎ (ReadTogether pass s f g → ReadAgree pass s f g × ((x y : ReadField) → ReadBelow d f x → ReadBelow d g y → Later x y)))

@@ -27,7 +27,7 @@ module _ {P : Type 0} where
   abbrev pub own_members : MeantSet P → List (Member P)
   own_members (meant_set t ss) = along t ss
 
-  -- ---- what is in a set is what its members are
+  -- ---- what is in a set, and its members
 
   in_own : (q : Position) (t : List ℕ) (i : ℕ) (ss : MeantSelections P) (x : Standing P) → Contains (stand q t i ss) x → Contains (along t ss) (member x)
   in_own q t i no_meant x c = absurd (not_in_nil x c)

@@ -21,7 +21,7 @@ use Rattle.rule_selections.specs.Within.{within, within_one, within_all}
 module _ (n : List ℕ) where
   -- ---- sets, at any depth
 
-  -- it is in a selection of the set itself, or of one of several sets
+  -- the variable is in a selection of the set itself; below, in one of several sets
   abbrev StandsThere : TypedSelections Place → Type 0
   StandsThere no_typed = ⊥
   StandsThere (typed_then x xs) = StandsHere n (meant x) ⊎ StandsThere xs
@@ -58,7 +58,7 @@ module _ (n : List ℕ) where
   among_either (v ∷ vs) ws (inl h) = inl (inl h)
   among_either (v ∷ vs) ws (inr h) = elim (among_either vs ws h) [ inl k ↦ inl (inr k) | inr k ↦ inr k ]
 
-  -- what is in a set at any depth is in its own selections or in those of a set within it, and conversely
+  -- what is in a set at any depth is in the own selections of the set or of one within it, and conversely
   mutual
     into_set : (v : TypedSet Place) → StandsInSet n (meant_of_set v) → StandsAmong (within v)
     into_set (typed_set t ss) h = elim (into_all ss h) [ inl k ↦ inl k | inr k ↦ inr k ]

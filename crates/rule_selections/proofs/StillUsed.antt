@@ -67,7 +67,7 @@ module _ (s : Terms) (d : MeantDocument Place) (instead : Entries (MeantFragment
     same_leads q (MeantInline pl k ds v) z (inr (inl c)) = let u = of_members q v (member z) (to_members p v z c) in inl (u.0, (inr (inl u.1.0), u.1.1))
     same_leads q (MeantInline pl k ds v) z (inr (inr (m, (named, rest)))) = absurd (true≢false (sym (ap is_some named)))
 
-    -- what is in the selections that a selection leads to is in that selection, unless it spreads a fragment
+    -- where x leads to z, what is in z is in x, or x spreads the fragment that z is in
     stands_above : (n : List ℕ) (x : MeantSelection Place) (z : Standing Place) → LeadsInto d (at p (t, x)) z → (StandsWithin n z.it → StandsWithin n x) ⊎ IsSpread x z
     stands_above n (MeantField pl df h v) z (inl (f, (same, c))) =
         let old : StandingField Place = record { position = p; parent = t; place = pl; definition = df; head = h; set = v } in
@@ -86,7 +86,7 @@ module _ (s : Terms) (d : MeantDocument Place) (instead : Entries (MeantFragment
     abbrev IsOwn : Standing Place → Type 0
     IsOwn x = (y : Standing Place) × (Reached Else o y × (member y ≡ member x))
 
-    -- what is in x is in a fragment that is spread by a selection reached with the other fragments
+    -- a selection reached with the other fragments spreads a fragment that has what is in x
     abbrev IsWithin : Standing Place → Type 0
     IsWithin x = (m : List ℕ) × ((g : MeantFragment Place) × ((under m d.fragments ≡ Some g) × ((y : Standing Place) × (Reached Else o y × ((spread_name y.it ≡ Some m) × (StandsWithin n x.it → StandsInSet n g.set))))))
 

@@ -35,7 +35,7 @@ no_schema_extension : list_any (λ d. is_some (schema_extension_here d)) built_i
 unfolding built_in_definitions
 no_schema_extension = refl
 
--- after definitions whose numbers go on, and after what is built in
+-- definitions without extensions after numbered ones, and numbered ones after what is built in
 plain_behind : (first : ℕ) (xs ys : Definitions) → list_any is_extension ys ≡ false → numbered first xs ++ map unnumbered ys ≡ numbered first (xs ++ ys)
 plain_behind first xs ys none = ap (λ l. numbered first xs ++ l) (sym (after_none first xs ys none)) ∙ sym (after_append first [] xs ys)
 

@@ -15,7 +15,7 @@ use Rattle.schema_fold.specs.Collected.{AllComponents, class_from, collected, co
 use Rattle.schema_fold.specs.declared.collected.Collected.{Collected}
 use Rattle.schema_fold.specs.declared.parts.Parts.{Parts as PartsRef}
 
--- a tree instead of a content
+-- what was given, with a tree instead of the content
 abbrev pub grown : {A B : Type 0} → (A → B) → Given Place (Placed Place A) → Given Place (Placed Place B)
 grown f g = record { extension = g.extension; it = record { it = f g.it.it; place = g.it.place } }
 

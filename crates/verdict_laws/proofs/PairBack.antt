@@ -58,7 +58,7 @@ behind_fewer count first some left = λ passed. left (by passed)
     by : PassesNumbers (1 + first) → PassesNumbers (count + first)
     by passed = omega (arith, some, passed)
 
--- ---- from the written texts back
+-- ---- the written texts, read back
 
 module _ (terms : Terms) (schemas : List SourceText) (document : SourceText) (other : terms.first_text ≢ 0) (first : IsAccepted terms schemas document) (layout next : Layout) (plain : IsPlainLayout layout) (plain_next : IsPlainLayout next) (schema_written document_written : SourceText) (schema_is : IsLaidOutText layout (Out terms first.schema.judged.trees) schema_written) (document_is : IsLaidOutText next (OutDoc first.over.judged.tree) document_written) where
   abbrev number : ℕ
