@@ -41,12 +41,12 @@ module _ {P : Type 0} where
   field_anywhere h k t (MeantInline p n ds s) = refl
 
 module _ {P : Type 0} (d : MeantDocument P) where
-  -- the same as `InFragmentOf`, wherever they stand
+  -- the same as `InFragmentOf`, wherever they are
   abbrev Leads : Selecting P → Selecting P → Type 0
   Leads v w = Contains (map selecting (in_inline (InOperation None) v.1)) w
       ⊎ Present (spread_name v.1) (λ n. Present (fragment_named d n) (λ f. Contains (map selecting (held f)) w))
 
-  -- the same as standing in a set, wherever it stands
+  -- the selection is in the set, wherever the set is
   abbrev Begins : MeantSet P → Selecting P → Type 0
   Begins s v = Contains (map selecting (standing_in (InOperation None) s)) v
 

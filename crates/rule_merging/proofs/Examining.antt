@@ -238,7 +238,7 @@ module _ (pass : Pass) (s : Judged) (d : MeantDocument Place) where
 
   -- ---- what sets select
 
-  -- what stood in lists does so with more of them
+  -- what was in lists still is with more of them
   pub stand_more : (old new : List (List ReadField)) → HasMore old new → (x y : ReadField) → StandIn old x y → StandIn new x y
   stand_more old new more x y h = (h.0, (more h.0 h.1.0, h.1.1))
 
