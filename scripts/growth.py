@@ -23,20 +23,19 @@ says, so that KNOWN stays true; where a text is not answered as it should be; an
 import argparse
 import math
 import os
-import re
-import resource
 import signal
 import subprocess
 import sys
 import tempfile
 from typing import NamedTuple, Optional
 
+import counting
 import growth_texts
 from sources import TOP
 
-# The limits of a run at the full size, and of one that is counted: processor seconds, MB.
-FULL_SECONDS, FULL_MEGABYTES = 10, 1024
-COUNTED_SECONDS, COUNTED_MEGABYTES = 120, 2800
+# The limits of a run at the full size, and of one that is counted.
+FULL = counting.Limits(seconds=10, megabytes=1024)
+COUNTED = counting.Limits(seconds=120, megabytes=2800)
 
 # What is wanted: the MB at the full size. By what factor instructions may grow is in each family.
 WANTED_MEGABYTES = 64
@@ -60,99 +59,13 @@ KNOWN = {
 }
 
 
-class Run(NamedTuple):
-    """How a run ended: its status, or which limit ended it; what it wrote to standard error; its MB and processor seconds, if told."""
-
-    status: Optional[int]
-    cut: Optional[str]
-    stderr: str
-    megabytes: float = 0
-    seconds: float = 0
-
-
-def limits(seconds, megabytes):
-    """What sets these limits for a process that begins."""
-
-    def less():
-        resource.setrlimit(resource.RLIMIT_CORE, (0, 0))
-        resource.setrlimit(resource.RLIMIT_CPU, (seconds, seconds))
-        most = megabytes << 20
-        hard = resource.getrlimit(resource.RLIMIT_AS)[1]
-        if hard != resource.RLIM_INFINITY:
-            most = min(most, hard)
-        resource.setrlimit(resource.RLIMIT_AS, (most, most))
-
-    return less
-
-
-def run(words, folder, seconds, megabytes):
-    """Runs a program below GNU's time with these limits, and ends it where it takes much longer by the clock."""
-    words = ["/usr/bin/time", "-q", "-f", "held %M %U %S %x", *words]
-    process = subprocess.Popen(
-        words, cwd=folder, stdout=subprocess.DEVNULL, stderr=subprocess.PIPE, text=True, errors="replace",
-        preexec_fn=limits(seconds, megabytes), start_new_session=True,
-    )
-    try:
-        stderr = process.communicate(timeout=20 * seconds)[1]
-    except subprocess.TimeoutExpired:
-        return Run(None, "seconds", "")
-    finally:
-        if process.poll() is None:
-            os.killpg(process.pid, signal.SIGKILL)
-            process.communicate()
-    found = re.search(r"^held (\d+) ([\d.]+) ([\d.]+) (\d+)$", stderr, re.M)
-    if not found:
-        sys.exit(f"growth.py: time told nothing: {stderr[-300:]}")
-    megabytes, spent = int(found[1]) / 1024, float(found[2]) + float(found[3])
-    status = process.returncode
-    if status > 128 or status < 0:
-        return Run(None, "seconds", stderr, megabytes, spent)
-    return Run(status, "memory" if status == 4 else None, stderr, megabytes, spent)
-
-
-class Counter:
-    """What counts instructions."""
-
-    def __init__(self, folder):
-        self.out = os.path.join(folder, "counted")
-        self.name = "perf" if self.has_perf() else "callgrind"
-
-    def has_perf(self):
-        """Whether this machine counts instructions."""
-        try:
-            words = ["perf", "stat", "-x,", "-e", "instructions:u", "-o", self.out, "true"]
-            return subprocess.run(words, capture_output=True, check=False).returncode == 0 and self.told_by_perf() is not None
-        except OSError:
-            return False
-
-    def told_by_perf(self):
-        """What perf has counted, if it has."""
-        with open(self.out, encoding="utf-8") as file:
-            found = re.search(r"^(\d+),[^,]*,instructions", file.read(), re.M)
-        return int(found[1]) if found else None
-
-    def count(self, words, folder):
-        """Runs a program and gives the instructions that were counted, none where it was cut off."""
-        if self.name == "perf":
-            counter = ["perf", "stat", "-x,", "-e", "instructions:u", "-o", self.out]
-        else:
-            counter = ["valgrind", "--tool=callgrind", "--callgrind-out-file=/dev/null"]
-        ended = run([*counter, *words], folder, COUNTED_SECONDS, COUNTED_MEGABYTES)
-        if ended.cut:
-            return ended, None
-        if self.name == "perf":
-            return ended, self.told_by_perf()
-        found = re.search(r"Collected : (\d+)", ended.stderr)
-        return ended, int(found[1]) if found else None
-
-
 class Measured(NamedTuple):
     """What was measured of a family: the bytes of both texts at n/2, n, 2 n and the full size, the instructions at the first three,
     and how the run of the full size ended."""
 
     sizes: list
     counts: list
-    full: Run
+    full: counting.Run
 
     def factor(self):
         """By what factor the instructions grow from n to 2 n, apart from those that all three texts take."""
@@ -165,7 +78,7 @@ class Measuring:
 
     def __init__(self, programs, folder):
         self.programs, self.folder = programs, folder
-        self.counter = Counter(folder)
+        self.counter = counting.Counter(folder)
 
     def write(self, texts):
         """Writes a schema and a document, and gives the bytes of both."""
@@ -181,7 +94,7 @@ class Measuring:
 
     def counted(self, name):
         """The instructions that it takes for these, and how it ended."""
-        ended, count = self.counter.count(self.words(name), self.folder)
+        ended, count = self.counter.count(self.words(name), self.folder, limits=COUNTED, stdout=subprocess.DEVNULL)
         if count is None and not ended.cut:
             sys.exit(f"growth.py: nothing was counted: {ended.stderr[-300:]}")
         return ended, count
@@ -199,7 +112,7 @@ class Measuring:
         if not counts[0] < counts[1] < counts[2]:
             return None, [f"does not grow, so nothing was measured: {counts}"]
         sizes.append(self.write(family.make(family.full)))
-        full = run(self.words(name), self.folder, FULL_SECONDS, FULL_MEGABYTES)
+        full = counting.run(self.words(name), self.folder, limits=FULL, stdout=subprocess.DEVNULL)
         if not full.cut:
             wrong += unwanted_answer(family, full)
         return Measured(sizes, counts, full), wrong
@@ -208,7 +121,7 @@ class Measuring:
 def unwanted_answer(family, ended):
     """That a text is not answered as its family says."""
     if family.bound and ended.status != int(family.told):
-        told = " ".join(line for line in ended.stderr.split("\n") if not line.startswith(("==", "held")))
+        told = " ".join(line for line in ended.stderr.split("\n") if not line.startswith("=="))
         yield f"ended with status {ended.status}{told and ': ' + told[:200]}"
 
 
@@ -231,9 +144,9 @@ def wrong_with(family, measured):
         if full.cut != known.cut:
             yield f"cut off by {full.cut} at {family.full:,} bytes"
     elif not known.cut:
-        yield from compared("MB held:", full.megabytes, WANTED_MEGABYTES, known.megabytes)
+        yield from compared("MB held:", full.kilobytes / 1024, WANTED_MEGABYTES, known.megabytes)
     # One that is known to be cut off may just end on a faster machine.
-    elif full.seconds < FULL_SECONDS / 4:
+    elif full.seconds < FULL.seconds / 4:
         yield f"ends at {family.full:,} bytes after {full.seconds:.1f} seconds: change what KNOWN says"
 
 
@@ -243,7 +156,7 @@ def shown(family, measured, as_table):
     factor, full = measured.factor(), measured.full
     more = "more than " if full.cut else ""
     seconds = f"{more if full.cut == 'seconds' else ''}{full.seconds:.1f}"
-    megabytes = f"{more if full.cut else ''}{full.megabytes:,.0f}"
+    megabytes = f"{more if full.cut else ''}{full.kilobytes / 1024:,.0f}"
     exponent = math.log2(factor)
     counts = [f"{count / 1e6:,.0f}" for count in measured.counts[1:]]
     if as_table:

@@ -16,14 +16,12 @@ call from Python costs. A line each tells microseconds of processor time a call,
 
 import json
 import os
-import re
 import resource
-import shutil
-import subprocess
 import sys
 import tempfile
 import time
 
+import counting
 import sources
 
 # Six definitions, one of each kind, as # of a schema: an object that implements an interface, with arguments and directives,
@@ -314,14 +312,11 @@ def cost(program, folder, texts):
         with open(os.path.join(folder, name), "w", encoding="utf-8") as file:
             file.write(text)
     words = [program, "--indent", "two", "document", "schema"]
-    counter = [shutil.which("valgrind"), "--tool=callgrind", "--callgrind-out-file=/dev/null"]
     # without an environment, which the loader reads
-    counted = subprocess.run([*counter, *words], cwd=folder, env={}, capture_output=True, text=True, check=False)
-    found = re.search(r"Collected : (\d+)", counted.stderr)
-    if not found:
+    counted, instructions = counting.Counter(folder, "callgrind").count(words, folder, environment={})
+    if instructions is None:
         sys.exit(f"speed.py: callgrind counted nothing: {counted.stderr[-300:]}")
-    held = subprocess.run(["/usr/bin/time", "-f", "%M", *words], cwd=folder, capture_output=True, text=True, check=False)
-    return int(found[1]), int(held.stderr.split()[-1]), counted.stdout.split("\n")[0]
+    return instructions, counting.run(words, folder).kilobytes, counted.stdout.split("\n")[0]
 
 
 def line(number):
@@ -336,14 +331,13 @@ def batch(program, folder, count):
         file.write(described(780))
     with open(os.path.join(folder, "lines"), "w", encoding="utf-8") as file:
         file.writelines(line(number) for number in range(1, count + 1))
-    words = ["/usr/bin/time", "-f", "%M", program, "--batch", "--schema", "schema"]
     begun = time.monotonic()
     with open(os.path.join(folder, "lines"), "rb") as lines:
-        done = subprocess.run(words, cwd=folder, stdin=lines, capture_output=True, text=True, check=False)
+        done = counting.run([program, "--batch", "--schema", "schema"], folder, stdin=lines)
     seconds = time.monotonic() - begun
     if done.stdout.count("\n") != count:
         sys.exit(f"speed.py: not a line for each: {done.stderr[-300:]}")
-    return seconds, int(done.stderr.split()[-1])
+    return seconds, done.kilobytes
 
 
 def batches(program):

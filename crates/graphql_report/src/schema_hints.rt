@@ -114,36 +114,22 @@ fn member_hint(
     given: &str,
 ) -> Result<Option<String>, AllocError> {
     match schema.type_named(type_name) {
-        Some(ExtendedType::Object(object)) => closest_key(
-            alloc,
-            left,
-            &object.content().fields,
-            given,
-            "",
-        ),
-        Some(ExtendedType::Interface(interface)) => closest_key(
-            alloc,
-            left,
-            &interface.content().fields,
-            given,
-            "",
-        ),
-        Some(ExtendedType::Enum(definition)) => closest_key(
-            alloc,
-            left,
-            &definition.content().values,
-            given,
-            "",
-        ),
-        Some(ExtendedType::InputObject(definition)) => closest_key(
-            alloc,
-            left,
-            &definition.content().fields,
-            given,
-            "",
-        ),
+        Some(ExtendedType::Object(ty)) => member_key(alloc, left, &ty.content().fields, given),
+        Some(ExtendedType::Interface(ty)) => member_key(alloc, left, &ty.content().fields, given),
+        Some(ExtendedType::Enum(ty)) => member_key(alloc, left, &ty.content().values, given),
+        Some(ExtendedType::InputObject(ty)) => member_key(alloc, left, &ty.content().fields, given),
         _ => Ok(None),
     }
+}
+
+/// The name that is near among those of the members of a type.
+fn member_key<V>(
+    alloc: Global,
+    left: &mut usize,
+    members: &IndexMap<Name, V>,
+    given: &str,
+) -> Result<Option<String>, AllocError> {
+    closest_key(alloc, left, members, given, "")
 }
 
 /// An argument of the field or of the directive.

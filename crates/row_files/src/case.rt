@@ -5,6 +5,7 @@ use crate::lines::Lines;
 use crate::plan::{Plan, whole};
 use crate::problem::Problem;
 use crate::row_file::Row;
+use crate::settings::MOST;
 use std::alloc::Global;
 use std::fmt::Display;
 
@@ -183,9 +184,18 @@ fn tell_way(way: Way<'_>, told: &mut Lines) {
         "`, nesting, step, text, read, write:",
     );
     for number in [way.nesting, plan.step, plan.text, plan.read, plan.write] {
-        told.show_between(" ", &number, "");
+        tell_number(number, told);
     }
     told.put("\n");
+}
+
+/// Tells a number as rows write it.
+fn tell_number(number: usize, told: &mut Lines) {
+    if number == usize::MAX {
+        told.show_between(" ", &MOST, "");
+    } else {
+        told.show_between(" ", &number, "");
+    }
 }
 
 /// Tells an answer.

@@ -3,9 +3,12 @@
 use crate::problem::Problem;
 use crate::row_file::{Field, Row};
 
-/// The number in this text; `most` is the greatest.
+/// The word of rows for the greatest number.
+pub(crate) const MOST: &str = "most";
+
+/// The number in this text.
 fn number_of(field: Field<'_>, text: &str) -> Result<usize, Problem> {
-    if text == "most" {
+    if text == MOST {
         return Ok(usize::MAX);
     }
     match text.parse::<usize>() {
