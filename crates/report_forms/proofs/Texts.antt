@@ -16,7 +16,7 @@ five a b c d e = three a b (c ++ (d ++ e)) ∙ four (a ++ b) c d e
 six : (a b c d e f : List ℕ) → a ++ (b ++ (c ++ (d ++ (e ++ f)))) ≡ ((((a ++ b) ++ c) ++ d) ++ e) ++ f
 six a b c d e f = three a b (c ++ (d ++ (e ++ f))) ∙ five (a ++ b) c d e f
 
-seven : (a b c d e f g : List ℕ) → a ++ (b ++ (c ++ (d ++ (e ++ (f ++ g))))) ≡ (((((a ++ b) ++ c) ++ d) ++ e) ++ f) ++ g
+pub seven : (a b c d e f g : List ℕ) → a ++ (b ++ (c ++ (d ++ (e ++ (f ++ g))))) ≡ (((((a ++ b) ++ c) ++ d) ++ e) ++ f) ++ g
 seven a b c d e f g = three a b (c ++ (d ++ (e ++ (f ++ g)))) ∙ six (a ++ b) c d e f g
 
 eight : (a b c d e f g h : List ℕ) → a ++ (b ++ (c ++ (d ++ (e ++ (f ++ (g ++ h)))))) ≡ ((((((a ++ b) ++ c) ++ d) ++ e) ++ f) ++ g) ++ h

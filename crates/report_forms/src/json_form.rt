@@ -11,7 +11,7 @@ use std::alloc::{AllocError, Global};
 
 impl Entry {
     /// The fault as a JSON object in a line: `path`; `line`, `column`, `end`, `offset` and `length`, which are null if it
-    /// has no place; `rule`, `message`, `related`, `hint`, and `fields`, the data of the fault.
+    /// has no place; `severity`, `rule`, `message`, `related`, `hint`, and `fields`, the data of the fault.
     pub fn json(&self, alloc: Global) -> Result<String, AllocError>
         ensures { IfOk result (λ text. IsOneLine (string_bytes text)) }
     {
@@ -35,6 +35,7 @@ impl Entry {
     {
         push_text(alloc, out, "{\"path\":", &self.path)?;
         push_place(out, self.place)?;
+        push_text(alloc, out, ",\"severity\":", self.severity.word())?;
         push_text(alloc, out, ",\"rule\":", self.rule)?;
         push_text(alloc, out, ",\"message\":", &self.message)?;
         push_related(alloc, out, &self.related)?;
