@@ -1,7 +1,7 @@
 use Rattle.std.proofs.Common.{◌≡◌, ◌++◌, codes, string_bytes, ap, sym, ◌∙◌, rules}
 use Rattle.std.specs.Option.{option_map}
 use Rattle.report_forms.specs.declared.entry.Place.{Place}
-use Rattle.report_forms.specs.Forms.{severity_word, start_of, position_text, heading}
+use Rattle.report_forms.specs.Forms.{start_of, position_text, heading}
 use Rattle.report_forms.proofs.Texts.{seven, made_as}
 use Rattle.report_forms.proofs.entry.Entry.heading.Goals.{in-None, in-Some}
 use Rattle.report_forms.proofs.entry.Entry.heading.Goals as goal
