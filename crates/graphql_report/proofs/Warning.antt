@@ -29,14 +29,15 @@ warned_more sources name uses k d old new e less h grown w =
     (one_more sources name (map use_tree (take k uses)) old (use_tree (get_or uses k d)) e h w))
 
 -- the whole
-pub warning_report : (schemas sources : List Source) (document : Source) (path text : List ℕ) (schema : SchemaTree Place) (meant : MeantDocument Place) (uses : Vec Rust Global) (entries : List Entry)
-    → document.path.now ≡ path → document.lines.now ≡ text → sources ≡ schemas ++ document ∷ [] → TellsDeprecatedUses schema meant uses → AreWarned sources path (uses_of uses) entries
+pub warning_report : (schemas sources : List Source) (document : Source) (path text : List ℕ) (schema : SchemaTree Place) (meant : MeantDocument Place) (uses : Vec Rust Global) (given : List Rust) (entries : List Entry)
+    → document.path.now ≡ path → document.lines.now ≡ text → sources ≡ schemas ++ document ∷ [] → TellsDeprecatedUses schema meant uses → given ≡ uses.items
+    → AreWarned sources path (map use_tree given) entries
     → IsWarningReport schemas path text schema meant entries
-warning_report schemas sources document path text schema meant uses entries named is all told h = record {
+warning_report schemas sources document path text schema meant uses given entries named is all told same h = record {
   document = document;
   named = named;
   text_is = is;
   uses = uses;
   told = told;
-  warned = subst (λ (l : List Source). AreWarned l path (uses_of uses) entries) all h;
+  warned = subst (λ (l : List Source). AreWarned l path (uses_of uses) entries) all (subst (λ (us : List Rust). AreWarned sources path (map use_tree us) entries) same h);
 }
