@@ -20,20 +20,21 @@ module _ (sources : List Source) (name : List ℕ) where
   one_more (s ∷ us) (x ∷ es) u e h w = (h.0, one_more us es u e h.1 w)
 
 -- one more entry
-pub warned_more : (sources : List Source) (name : List ℕ) (uses : List Rust) (k : ℕ) (d : Rust) (old new : List Entry) (e : Entry) → k < length uses
-    → AreWarned sources name (map use_tree (take k uses)) old → new ≡ old ++ e ∷ [] → Warns sources name (use_tree (get_or uses k d)) e
+pub warned_more : (sources : List Source) (name : List ℕ) (uses : List Rust) (k : ℕ) (d one : Rust) (old new : List Entry) (e : Entry) → k < length uses
+    → AreWarned sources name (map use_tree (take k uses)) old → new ≡ old ++ e ∷ [] → one ≡ get_or uses k d → Warns sources name (use_tree one) e
     → AreWarned sources name (map use_tree (take (k + 1) uses)) new
-warned_more sources name uses k d old new e less h grown w =
+warned_more sources name uses k d one old new e less h grown is w =
     subst (λ (us : List (DeprecatedUse Place)). AreWarned sources name us new) (sym (map_more use_tree uses k d less))
     (subst (λ (es : List Entry). AreWarned sources name (map use_tree (take k uses) ++ use_tree (get_or uses k d) ∷ []) es) (sym grown)
-    (one_more sources name (map use_tree (take k uses)) old (use_tree (get_or uses k d)) e h w))
+    (one_more sources name (map use_tree (take k uses)) old (use_tree (get_or uses k d)) e h
+    (subst (λ (u : Rust). Warns sources name (use_tree u) e) is w)))
 
 -- the whole
 pub warning_report : (schemas sources : List Source) (document : Source) (path text : List ℕ) (schema : SchemaTree Place) (meant : MeantDocument Place) (uses : Vec Rust Global) (given : List Rust) (entries : List Entry)
-    → document.path.now ≡ path → document.lines.now ≡ text → sources ≡ schemas ++ document ∷ [] → TellsDeprecatedUses schema meant uses → given ≡ uses.items
+    → sources ≡ schemas ++ document ∷ [] → document.path.now ≡ path → document.lines.now ≡ text → TellsDeprecatedUses schema meant uses → given ≡ uses.items
     → AreWarned sources path (map use_tree given) entries
     → IsWarningReport schemas path text schema meant entries
-warning_report schemas sources document path text schema meant uses given entries named is all told same h = record {
+warning_report schemas sources document path text schema meant uses given entries all named is told same h = record {
   document = document;
   named = named;
   text_is = is;

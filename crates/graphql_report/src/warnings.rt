@@ -17,7 +17,6 @@ use std::alloc::{AllocError, Global};
 impl Report {
     /// The warnings about a valid document at that path, over a schema of these texts, after which its own text comes: the uses of
     /// what is deprecated, at most 1,000 of them.
-    #[tactic(auto, using(crate::proofs::Warning::warning_report))]
     pub fn of_warnings(
         alloc: Global,
         schema: &Schema,
@@ -41,7 +40,6 @@ impl Report {
 }
 
 /// The entry of each use, in order.
-#[tactic(auto, using(crate::proofs::Warning::warned_more))]
 fn warned(
     alloc: Global,
     sources: &[Source<'_>],
