@@ -113,6 +113,7 @@ typedef struct {
  *   line, column    both from 1; columns count code points. These and the next three are null where there is no place in a text
  *   end             an object with the `line` and `column` of the place after the last character
  *   offset, length  in bytes; the offset from 0
+ *   severity        `error`
  *   rule            a name of docs/RULES.md, which is installed in share/doc/graphql-checked; or `Syntax` where a text is not
  *                   read, `Nesting` or `RecursionLimitError` past a limit, `Spent` where numbers ran out
  *   message, hint   strings; `hint` may be null

@@ -30,6 +30,7 @@ export interface Fault {
     offset: number | null;
     /** In bytes. */
     length: number | null;
+    severity: "error";
     /** A name of docs/RULES.md; or `Syntax` where a text is not read, `Nesting` or `RecursionLimitError` past a limit, `Spent` where
      * numbers ran out. */
     rule: string;

@@ -19,8 +19,8 @@ function reports() {
     assert.deepStrictEqual(schema.check("{ product { id } }"), { accepted: true, faults: [] });
     const [fault] = schema.check("{ product {\n  prize } }", { path: "query.graphql" }).faults;
     assert.deepStrictEqual(fault, {
-        path: "query.graphql", line: 2, column: 3, end: { line: 2, column: 8 }, offset: 14, length: 5, rule: "UndefinedField",
-        message: "`Product` has no field `prize`", related: [], hint: "did you mean `price`?", fields: { type_name: "Product", field_name: "prize" },
+        path: "query.graphql", line: 2, column: 3, end: { line: 2, column: 8 }, offset: 14, length: 5, severity: "error",
+        rule: "UndefinedField", message: "`Product` has no field `prize`", related: [], hint: "did you mean `price`?", fields: { type_name: "Product", field_name: "prize" },
     });
     assert.strictEqual(faultText(fault), "query.graphql:2:3: UndefinedField: `Product` has no field `prize` (did you mean `price`?)");
     const [other] = schema.check(new Uint8Array(Buffer.from("{ product { name } }"))).faults;

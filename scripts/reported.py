@@ -125,6 +125,7 @@ class Case:
             "end": {"line": end_line, "column": end_column},
             "offset": begin,
             "length": end - begin,
+            "severity": "error",
             "rule": self.rule,
             "message": message,
             "related": [dict(zip(("path", "line", "column", "words"), other)) for other in self.others()],

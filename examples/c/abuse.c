@@ -113,8 +113,8 @@ static int is(int line, graphql_checked_status wanted) {
 #define REPORT "refused\n2:2: `Query` has no field `missing`\n"
 #define JSON_AT(path)                                                                                             \
     "{\"path\":\"" path "\",\"line\":1,\"column\":3,\"end\":{\"line\":1,\"column\":10},\"offset\":2,\"length\":7," \
-    "\"rule\":\"UndefinedField\",\"message\":\"`Query` has no field `missing`\",\"related\":[],\"hint\":null,"     \
-    "\"fields\":{\"type_name\":\"Query\",\"field_name\":\"missing\"}}\n"
+    "\"severity\":\"error\",\"rule\":\"UndefinedField\",\"message\":\"`Query` has no field `missing`\","                \
+    "\"related\":[],\"hint\":null,\"fields\":{\"type_name\":\"Query\",\"field_name\":\"missing\"}}\n"
 
 /* What is no opening. Each leaves the handle without a schema. */
 static void not_opened(graphql_checked_schema *schema) {
@@ -151,8 +151,8 @@ static void not_opened(graphql_checked_schema *schema) {
     graphql_checked_text two[] = {{"type Query { a: Int }", 21, "one"}, {"extend type Query { b: Missing }", 32, "two"}};
     TELLS(GRAPHQL_CHECKED_REFUSED, "refused\n2:23: cannot find type `Missing` in this document\n", graphql_checked_open(schema, two, 2, &as_text, &answer));
     TELLS(GRAPHQL_CHECKED_REFUSED,
-          "{\"path\":\"two\",\"line\":1,\"column\":24,\"end\":{\"line\":1,\"column\":31},\"offset\":23,\"length\":7,\"rule\":\"UndefinedDefinition\","
-          "\"message\":\"cannot find type `Missing` in this document\",\"related\":[],"
+          "{\"path\":\"two\",\"line\":1,\"column\":24,\"end\":{\"line\":1,\"column\":31},\"offset\":23,\"length\":7,\"severity\":\"error\","
+          "\"rule\":\"UndefinedDefinition\",\"message\":\"cannot find type `Missing` in this document\",\"related\":[],"
           "\"hint\":\"no type `Missing` in one, two; a schema of several files needs them all\",\"fields\":{\"name\":\"Missing\"}}\n",
           graphql_checked_open(schema, two, 2, &as_json, &answer));
     ASK(GRAPHQL_CHECKED_REFUSED, graphql_checked_open(schema, two, 2, &as_json, 0));

@@ -1,8 +1,7 @@
 """The forms are those of `graphql-report`, whose runs are in examples/report/runs.txt: line for line, but for the last, how much was
-found, which JSON has as records, and but for that of the schema; JSON has the severity, too. Left out are runs that cut what is printed, or name a file twice or one
-that is not there."""
+found, which JSON has as records, and but for that of the schema. Left out are runs that cut what is printed, tell warnings, whose names
+are others there, or name a file twice or one that is not there."""
 
-import json
 import re
 import shlex
 from typing import List, Tuple
@@ -11,7 +10,7 @@ import pytest
 from conftest import TOP, Repository
 
 
-LEFT_OUT = re.compile(r"[|<>]|--batch|--help|--version|--max-faults|--quiet|none\.graphql|(\S+twice\S+) .*\1")
+LEFT_OUT = re.compile(r"[|<>]|--batch|--help|--version|--max-faults|--warn|--deny|--quiet|none\.graphql|(\S+twice\S+) .*\1")
 
 
 def runs() -> List[Tuple[str, List[str]]]:
@@ -26,25 +25,15 @@ def runs() -> List[Tuple[str, List[str]]]:
     return [(command.replace(" 2>/dev/null", ""), [it for it in wanted if not re.match(r"\d+ (fault|document)s?\b|schema accepted|\[\d\]$|\{\"(document|schema|summary)\":", it)]) for command, wanted in plain]
 
 
-def as_told(line: str, form: str) -> str:
-    """A line of graphql-check as graphql-report has it."""
-    if form == "json":
-        told = json.loads(line)
-        assert told.pop("severity") == "error"
-        return json.dumps(told, ensure_ascii=False, separators=(",", ":"))
-    return line
-
-
 @pytest.mark.parametrize("command,wanted", runs())
 def test_the_runs_of_graphql_report(command: str, wanted: List[str]) -> None:
     words = shlex.split(command)[1:]
-    form = words[words.index("--format") + 1] if "--format" in words else "text"
     options = [it for index, it in enumerate(words) if it.startswith("--") or words[index - 1].startswith("--")]
     documents = [it for it in words if it not in options]
     told = []
     for document in [[it] for it in documents] or [[]]:
         told += Repository(TOP).run("check", *options, *document).lines
-    assert [as_told(line, form) for line in told] == wanted
+    assert told == wanted
 
 
 def test_the_runs_are_there() -> None:

@@ -2,4 +2,5 @@ pub mod ToldPlaces
 pub mod FoundPlaces
 pub mod Taken
 pub mod Reports
+pub mod Warnings
 pub mod Offered

@@ -11,6 +11,7 @@ use Rattle.report_forms.specs.declared.entry.Entry.{Entry}
 use Rattle.report_forms.specs.declared.entry.Related.{Related}
 use Rattle.report_forms.specs.declared.noted.Noted.{Noted}
 use Rattle.report_forms.specs.declared.order.Rank.{Rank}
+use Rattle.report_forms.specs.declared.severity.Severity.TheVariants.{Error}
 use Rattle.report_forms.specs.declared.source.Source.{Source}
 use Rattle.graphql_report.specs.FoundPlaces.{AreFound}
 use Rattle.graphql_report.specs.ToldPlaces.{plain, places_of, AddsOperation}
@@ -25,9 +26,10 @@ pub record HasPlaces (sources : List Source) (own : Place) (details : DetailsTre
   pub each : AreRelated sources (others own noted) places
   pub operation : AddsOperation details places related
 
--- the entry has the name of the fault's text, its place, the name of its rule, its message, and the other places that its data have
+-- the entry is a fault: it has the name of the fault's text, its place, the name of its rule, its message, and the other places that its data have
 pub record Tells (sources : List Source) (name : List ℕ) (fault : DetailsAt Place (List Place)) (e : Entry) : Type 0 where
   pub place : IsLocated sources name fault.place e
+  pub severity : e.severity ≡ Error
   pub rule : e.rule.now ≡ details_name fault.details
   pub message : string_bytes e.message ≡ details_message fault.details
   pub related : HasPlaces sources fault.place fault.details e.related.items

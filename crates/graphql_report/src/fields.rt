@@ -1,29 +1,33 @@
-//! The names and types that a fault has, under the names of its variant's fields.
+//! The names and types that a fault has, under the names of its variant's fields; and what a warning has.
 
 use fault_data::DiagnosticData;
 use fault_document_errors::BuildError;
 use graphql_faults::Details;
 use graphql_names::Name;
 use report_forms::Field;
+use rule_warnings::DeprecatedUse;
 use schema_fold::BuildError as FoldingError;
 use std::alloc::{AllocError, Global};
 use std::fmt::Display;
 
 /// Each name and each type of the fault's data, in their order.
 pub(crate) fn fields_of(alloc: Global, details: &Details) -> Result<Vec<Field>, AllocError> {
-    let mut fields = Fields {
-        alloc,
-        list: Vec::new(alloc),
-        is_whole: true,
-    };
+    let mut fields = Fields::new(alloc);
     match details {
         Details::Data(data) => put_of_data(&mut fields, data),
         Details::DocumentBuild(error) => put_of_document(&mut fields, error),
         Details::SchemaBuild(error) => put_of_folding(&mut fields, error),
         _ => {}
     }
-    let Fields { list, is_whole, .. } = fields;
-    if is_whole { Ok(list) } else { Err(AllocError) }
+    fields.finish()
+}
+
+/// The coordinate and the reason of a use of what is deprecated.
+pub(crate) fn fields_of_use(alloc: Global, one: &DeprecatedUse) -> Result<Vec<Field>, AllocError> {
+    let mut fields = Fields::new(alloc);
+    fields.put("coordinate", &one.coordinate);
+    fields.put("reason", &one.reason());
+    fields.finish()
 }
 
 /// A list of fields, and whether memory sufficed for each.
@@ -35,6 +39,21 @@ struct Fields {
 }
 
 impl Fields {
+    /// Nothing is added yet.
+    fn new(alloc: Global) -> Fields {
+        Fields {
+            alloc,
+            list: Vec::new(alloc),
+            is_whole: true,
+        }
+    }
+
+    /// The list, if it is whole.
+    fn finish(self) -> Result<Vec<Field>, AllocError> {
+        let Fields { list, is_whole, .. } = self;
+        if is_whole { Ok(list) } else { Err(AllocError) }
+    }
+
     /// Adds a field.
     fn put<T: Display>(&mut self, name: &'static str, value: &T) {
         let added = match value.to_string(self.alloc) {

@@ -1,10 +1,11 @@
 //! A report of faults: each under the path of its text, at its line and column, with the name of its rule, the places that
-//! belong to it, and a hint if there is one.
+//! belong to it, and a hint if there is one. A valid document may have warnings.
 //!
 //! For the layer above: [`Report::new`] has an entry for each fault, in the order of texts and places; its clause says where each
 //! entry is, what rule it names, what it tells and which places belong to it (`specs/Reports.antt`).
+//! [`Report::of_warnings`] has an entry for each use of what is deprecated (`specs/Warnings.antt`).
 //!
-//! Begin with `report.rt`.
+//! Begin with `report.rt`, then `warnings.rt`.
 #![tactic(auto)]
 
 mod brackets;
@@ -19,6 +20,9 @@ mod syntax_hints;
 mod taken;
 mod text_names;
 mod told_places;
+mod warnings;
 
 pub use report::Report;
-pub use report_forms::{Entry, Excerpt, Field, Lines, Place, Position, Related, Source, shown};
+pub use report_forms::{
+    Entry, Excerpt, Field, Lines, Place, Position, Related, Severity, Source, shown,
+};

@@ -12,11 +12,11 @@ use report_forms::{Entry, Lines, Source, order_of};
 use std::alloc::{AllocError, Global};
 use std::marker::Model;
 
-/// What is told of faults, in the order of texts and places, those without a place first.
+/// What is told of faults or warnings; of faults in the order of texts and places, those without a place first.
 ///
 /// A contract sees it as its entries.
 pub struct Report {
-    entries: Vec<Entry>,
+    pub(crate) entries: Vec<Entry>,
 }
 
 impl Drop for Report {
@@ -83,7 +83,7 @@ impl Report {
         Ok(report)
     }
 
-    /// What is told, an entry for each fault.
+    /// What is told, an entry for each fault or warning.
     pub fn entries(&self) -> &[Entry]
         ensures { result.now ≡ self.now }
     {
@@ -92,7 +92,7 @@ impl Report {
 }
 
 /// The texts of a schema, and after them that of a document.
-fn with_document<'a>(
+pub(crate) fn with_document<'a>(
     alloc: Global,
     schemas: &[Source<'a>],
     document: Source<'a>,

@@ -1,6 +1,6 @@
 //! Documents as lines of JSON.
 
-use crate::faults_of;
+use crate::{entries_of, faults_of, warnings_of};
 use graphql_checked::{CheckedSchema, Layout};
 use graphql_report::Report;
 use report_cli::{
@@ -44,7 +44,9 @@ fn answer(
     match schema.check(text) {
         Ok(checked) => {
             let written = checked.written(Layout::OneLine)?;
-            answer_accepted(rt, &request.id, &written, tally)
+            let report = warnings_of(rt.alloc(), telling, &checked, "document", text)?;
+            let warnings = entries_of(&report);
+            answer_accepted(rt, telling.settings, &request.id, &written, warnings, tally)
         }
         Err(refusal) => {
             let faults = faults_of(&refusal)?;

@@ -1,23 +1,24 @@
 //! Checks documents over a schema, and tells each fault at its line and column.
 //!
-//! `graphql-report [--format text|short|json|github] [--color auto|always|never] [--nesting N] [--max-faults N] --schema FILE
-//! [--schema FILE].. [--quiet] [DOCUMENT..]` checks the schema once, and then each document by itself; `-` is standard input. With
-//! `--batch` documents come from standard input, a JSON object a line.
+//! `graphql-report [--format text|short|json|github] [--color auto|always|never] [--warn] [--deny warnings] [--nesting N]
+//! [--max-faults N] --schema FILE [--schema FILE].. [--quiet] [DOCUMENT..]` checks the schema once, and then each document by
+//! itself; `-` is standard input. With `--batch` documents come from standard input, a JSON object a line. With `--warn` uses of
+//! what is deprecated are told of each document that is accepted.
 //!
-//! Begin with `check`: `schema_of`, `check_document` and `answer` are the calls of the library. What it takes, prints and counts is
-//! in `report_cli`.
+//! Begin with `check`: `schema_of`, `check_document`, `warnings_of` and `answer` are the calls of the library. What it takes, prints
+//! and counts is in `report_cli`.
 #![tactic(auto)]
 
 mod batch;
 
 use crate::batch::check_batch;
-use graphql_checked::{CheckedSchema, Checker, DiagnosticList, Limits, Refusal};
-use graphql_report::Report;
+use graphql_checked::{CheckedDocument, CheckedSchema, Checker, DiagnosticList, Limits, Refusal};
+use graphql_report::{Entry, Report, Severity};
 use report_cli::{
-    Settings, Stop, Tally, Telling, lines_of, read_document, read_schema, read_settings,
+    LintLevel, Settings, Stop, Tally, Telling, lines_of, read_document, read_schema, read_settings,
     read_words, sources_of, tell_end, tell_progress,
 };
-use std::alloc::Global;
+use std::alloc::{AllocError, Global};
 use std::mem::forget;
 use std::process::ExitCode;
 
@@ -52,10 +53,40 @@ fn tell_schema(
     };
     let report = Report::new(rt.alloc(), faults, telling.schemas, None, path)?;
     tally.add_schema();
-    telling.tell(rt, None, report.entries(), tally)
+    telling.tell(rt, None, Severity::Error, report.entries(), tally)
 }
 
-/// Checks the document in a file, and tells its faults.
+/// The warnings about a document that is accepted, if they are asked for.
+fn warnings_of(
+    alloc: Global,
+    telling: &Telling<'_>,
+    checked: &CheckedDocument<'_>,
+    path: &str,
+    text: &str,
+) -> Result<Option<Report>, AllocError> {
+    if matches!(telling.settings.lints, LintLevel::Allow) {
+        return Ok(None);
+    }
+    let report = Report::of_warnings(
+        alloc,
+        checked.schema().schema(),
+        checked.document(),
+        telling.schemas,
+        path,
+        text,
+    )?;
+    Ok(Some(report))
+}
+
+/// The entries of the report, if there is one.
+fn entries_of(report: &Option<Report>) -> &[Entry] {
+    match report {
+        None => &[],
+        Some(report) => report.entries(),
+    }
+}
+
+/// Checks the document in a file, and tells its faults or warnings.
 fn check_document(
     rt: &HostRuntime,
     telling: &Telling<'_>,
@@ -67,9 +98,11 @@ fn check_document(
         return Ok(());
     };
     match schema.check(&text) {
-        Ok(_) => {
+        Ok(checked) => {
             tally.add_accepted();
-            telling.tell(rt, Some(path), &[], tally)
+            let report = warnings_of(rt.alloc(), telling, &checked, path, &text)?;
+            let warnings = entries_of(&report);
+            telling.tell(rt, Some(path), Severity::Warning, warnings, tally)
         }
         Err(refusal) => {
             let faults = faults_of(&refusal)?;
@@ -82,7 +115,7 @@ fn check_document(
                 &text,
             )?;
             tally.add_refused();
-            telling.tell(rt, Some(path), report.entries(), tally)
+            telling.tell(rt, Some(path), Severity::Error, report.entries(), tally)
         }
     }
 }
@@ -94,7 +127,7 @@ fn check_documents(
     schema: &CheckedSchema,
     tally: &mut Tally,
 ) -> Result<(), Stop> {
-    telling.tell(rt, None, &[], tally)?;
+    telling.tell(rt, None, Severity::Error, &[], tally)?;
     for (done, path) in telling.settings.documents.iter().enumerate() {
         tell_progress(rt, telling.settings, done);
         check_document(rt, telling, schema, path, tally)?;
@@ -131,7 +164,10 @@ fn status(rt: &HostRuntime, words: &[String]) -> u8 {
         Ok(settings) => settings,
         Err(status) => return status,
     };
-    let mut tally = Tally::new(settings.documents.is_empty() && !settings.batch);
+    let mut tally = Tally::new(
+        settings.lints,
+        settings.documents.is_empty() && !settings.batch,
+    );
     let done = check(rt, &settings, &mut tally);
     tell_end(rt, &settings, tally, done)
 }

@@ -5,7 +5,7 @@ use Rattle.std.specs.Borrow.{Bor}
 use Rattle.std.specs.Option.{unwrap_or}
 use Rattle.std.proofs.lemmas.List.{append_assoc}
 use Rattle.json.specs.Print.{quoted}
-use Rattle.report_cli.specs.Answers.{begun_text, accepted_text, refused_text, id_or_null, unread_text, summary_text}
+use Rattle.report_cli.specs.Answers.{begun_text, accepted_text, refused_text, id_or_null, unread_text}
 use Rattle.report_cli.specs.declared.tally.Tally.{Tally}
 
 -- parts, grouped from the end and from the front
@@ -30,9 +30,14 @@ eight a b c d e f g h = three a b (c ++ (d ++ (e ++ (f ++ (g ++ h))))) ∙ seven
 nine : (a b c d e f g h i : List ℕ) → a ++ (b ++ (c ++ (d ++ (e ++ (f ++ (g ++ (h ++ i))))))) ≡ (((((((a ++ b) ++ c) ++ d) ++ e) ++ f) ++ g) ++ h) ++ i
 nine a b c d e f g h i = three a b (c ++ (d ++ (e ++ (f ++ (g ++ (h ++ i)))))) ∙ eight (a ++ b) c d e f g h i
 
+ten : (a b c d e f g h i j : List ℕ)
+    → a ++ (b ++ (c ++ (d ++ (e ++ (f ++ (g ++ (h ++ (i ++ j)))))))) ≡ ((((((((a ++ b) ++ c) ++ d) ++ e) ++ f) ++ g) ++ h) ++ i) ++ j
+ten a b c d e f g h i j = three a b (c ++ (d ++ (e ++ (f ++ (g ++ (h ++ (i ++ j))))))) ∙ nine (a ++ b) c d e f g h i j
+
 -- the lines that answer, and the records
-pub accepted_made : (id written : List ℕ) → codes "{\"id\":" ++ (id ++ (codes ",\"accepted\":true,\"written\":" ++ (quoted written ++ codes "}\n"))) ≡ accepted_text id written
-accepted_made id written = six (codes "{\"id\":") id (codes ",\"accepted\":") (codes "true,\"written\":") (quoted written) (codes "}\n")
+pub accepted_made : (id written members : List ℕ)
+    → codes "{\"id\":" ++ (id ++ (codes ",\"accepted\":true,\"written\":" ++ (quoted written ++ (members ++ codes "}\n")))) ≡ accepted_text id written members
+accepted_made id written members = seven (codes "{\"id\":") id (codes ",\"accepted\":") (codes "true,\"written\":") (quoted written) members (codes "}\n")
 
 pub refused_made : (id faults : List ℕ) (left_out : ℕ)
     → codes "{\"id\":" ++ (id ++ (codes ",\"accepted\":false,\"faults\":[" ++ (faults ++ (codes "],\"left_out\":" ++ (decimal left_out ++ codes "}\n"))))) ≡ refused_text id faults left_out
@@ -47,19 +52,36 @@ pub unread_made : (kind path reason : List ℕ)
     → codes "{\"" ++ (kind ++ (codes "\":" ++ (quoted path ++ (codes ",\"read\":false,\"error\":" ++ (quoted reason ++ codes "}\n"))))) ≡ unread_text kind path reason
 unread_made kind path reason = seven (codes "{\"") kind (codes "\":") (quoted path) (codes ",\"read\":false,\"error\":") (quoted reason) (codes "}\n")
 
+-- whether it is accepted, and its faults, between other parts
+judged_between : (front accepted faults back : List ℕ)
+    → front ++ (codes ",\"accepted\":" ++ (accepted ++ (codes ",\"faults\":" ++ (faults ++ back)))) ≡ front ++ (codes ",\"accepted\":" ++ accepted ++ codes ",\"faults\":" ++ faults) ++ back
+judged_between front accepted faults back =
+    ap (λ l. front ++ l) (five (codes ",\"accepted\":") accepted (codes ",\"faults\":") faults back) ∙ three front (codes ",\"accepted\":" ++ accepted ++ codes ",\"faults\":" ++ faults) back
+
 pub schema_made : (paths accepted : List ℕ) (faults : ℕ)
     → codes "{\"schema\":[" ++ (paths ++ (codes "],\"accepted\":" ++ (accepted ++ (codes ",\"faults\":" ++ (decimal faults ++ codes "}\n")))))
-    ≡ codes "{\"schema\":[" ++ paths ++ codes "]" ++ (codes ",\"accepted\":" ++ accepted ++ codes ",\"faults\":" ++ decimal faults ++ codes "}\n")
+    ≡ codes "{\"schema\":[" ++ paths ++ codes "]" ++ (codes ",\"accepted\":" ++ accepted ++ codes ",\"faults\":" ++ decimal faults) ++ codes "}\n"
 schema_made paths accepted faults =
     four (codes "{\"schema\":[") paths (codes "]") (codes ",\"accepted\":" ++ (accepted ++ (codes ",\"faults\":" ++ (decimal faults ++ codes "}\n"))))
-    ∙ ap (λ judged. codes "{\"schema\":[" ++ paths ++ codes "]" ++ judged) (five (codes ",\"accepted\":") accepted (codes ",\"faults\":") (decimal faults) (codes "}\n"))
+    ∙ judged_between (codes "{\"schema\":[" ++ paths ++ codes "]") accepted (decimal faults) (codes "}\n")
 
-pub summary_made : (t : Tally)
+pub document_made : (path accepted : List ℕ) (faults : ℕ) (warnings : List ℕ)
+    → codes "{\"document\":" ++ (path ++ (codes ",\"accepted\":" ++ (accepted ++ (codes ",\"faults\":" ++ (decimal faults ++ (warnings ++ codes "}\n"))))))
+    ≡ codes "{\"document\":" ++ path ++ (codes ",\"accepted\":" ++ accepted ++ codes ",\"faults\":" ++ decimal faults) ++ warnings ++ codes "}\n"
+document_made path accepted faults warnings =
+    let front = codes "{\"document\":" ++ path in
+    three (codes "{\"document\":") path (codes ",\"accepted\":" ++ (accepted ++ (codes ",\"faults\":" ++ (decimal faults ++ (warnings ++ codes "}\n")))))
+    ∙ judged_between front accepted (decimal faults) (warnings ++ codes "}\n")
+    ∙ three (front ++ (codes ",\"accepted\":" ++ accepted ++ codes ",\"faults\":" ++ decimal faults)) warnings (codes "}\n")
+
+pub summary_made : (t : Tally) (warnings : List ℕ)
     → codes "{\"summary\":{\"documents\":" ++ (decimal t.documents ++ (codes ",\"refused\":" ++ (decimal t.refused ++ (codes ",\"unread\":"
-    ++ (decimal t.unread ++ (codes ",\"faults\":" ++ (decimal t.faults ++ codes "}}\n"))))))) ≡ summary_text t
-summary_made t =
-    nine (codes "{\"summary\":{\"documents\":") (decimal t.documents) (codes ",\"refused\":") (decimal t.refused) (codes ",\"unread\":") (decimal t.unread)
-    (codes ",\"faults\":") (decimal t.faults) (codes "}}\n")
+    ++ (decimal t.unread ++ (codes ",\"faults\":" ++ (decimal t.faults ++ (warnings ++ codes "}}\n"))))))))
+    ≡ codes "{\"summary\":{\"documents\":" ++ decimal t.documents ++ codes ",\"refused\":" ++ decimal t.refused ++ codes ",\"unread\":" ++ decimal t.unread
+    ++ codes ",\"faults\":" ++ decimal t.faults ++ warnings ++ codes "}}\n"
+summary_made t warnings =
+    ten (codes "{\"summary\":{\"documents\":") (decimal t.documents) (codes ",\"refused\":") (decimal t.refused) (codes ",\"unread\":") (decimal t.unread)
+    (codes ",\"faults\":") (decimal t.faults) warnings (codes "}}\n")
 
 -- the id that is shown
 pub shown_id : (id : Option (Bor (List ℕ))) (null : Bor (List ℕ)) → null.now ≡ codes "null" → (unwrap_or id null).now ≡ id_or_null (option_map (λ text. text.now) id)

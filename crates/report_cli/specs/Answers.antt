@@ -1,18 +1,23 @@
 -- The lines that answer a batch, and the records among lines of JSON.
-use Rattle.std.specs.Prelude.{ℕ, ◌==◌, List, ◌++◌, codes, decimal, Option, Some, None, if◌then◌else◌}
+use Rattle.std.specs.Prelude.{ℕ, ◌==◌, List, [], ◌++◌, codes, decimal, Option, Some, None, if◌then◌else◌}
 use Rattle.std.specs.List.{join_by}
 use Rattle.json.specs.Print.{quoted}
 use Rattle.report_cli.specs.declared.asked.Why.{Why}
 use Rattle.report_cli.specs.declared.asked.Why.TheVariants.{NotJson, NotUtf8, NoId, WrongId, NoDocument, WrongDocument}
 use Rattle.report_cli.specs.declared.tally.Tally.{Tally}
+use Rattle.report_cli.specs.Counts.{counted_at}
 
 -- the beginning of an answer under this id, as JSON
 abbrev pub begun_text : List ℕ → List ℕ
 begun_text id = codes "{\"id\":" ++ id ++ codes ",\"accepted\":"
 
--- the answer to a document that is accepted: the text that is written of it
-abbrev pub accepted_text : List ℕ → List ℕ → List ℕ
-accepted_text id written = begun_text id ++ codes "true,\"written\":" ++ quoted written ++ codes "}\n"
+-- the answer to a document that is accepted: the text that is written of it, and these members
+abbrev pub accepted_text : List ℕ → List ℕ → List ℕ → List ℕ
+accepted_text id written members = begun_text id ++ codes "true,\"written\":" ++ quoted written ++ members ++ codes "}\n"
+
+-- its members for warnings, as JSON, and how many more are left out
+abbrev pub warnings_members : List ℕ → ℕ → List ℕ
+warnings_members warnings left_out = codes ",\"warnings\":[" ++ warnings ++ codes "],\"left_out\":" ++ decimal left_out
 
 -- the answer to a document that is refused: its faults, as JSON, and how many more are left out
 abbrev pub refused_text : List ℕ → List ℕ → ℕ → List ℕ
@@ -39,20 +44,25 @@ wrong_text id number why = begun_text (id_or_null id) ++ codes "false,\"line\":"
 abbrev pub named_text : List ℕ → List ℕ → List ℕ
 named_text kind path = codes "{\"" ++ kind ++ codes "\":" ++ quoted path
 
--- the end of a record of what is read: it is accepted if it has no faults
+-- the members of a record of what is read: it is accepted if it has no faults
 abbrev pub judged_text : ℕ → List ℕ
-judged_text faults = codes ",\"accepted\":" ++ (if faults == 0 then codes "true" else codes "false") ++ codes ",\"faults\":" ++ decimal faults ++ codes "}\n"
+judged_text faults = codes ",\"accepted\":" ++ (if faults == 0 then codes "true" else codes "false") ++ codes ",\"faults\":" ++ decimal faults
+
+-- the member for the number of warnings, if they are told
+abbrev pub count_member : Option ℕ → List ℕ
+count_member None = []
+count_member (Some warnings) = codes ",\"warnings\":" ++ decimal warnings
 
 -- the record of a document that is read
-abbrev pub document_text : List ℕ → ℕ → List ℕ
-document_text path faults = codes "{\"document\":" ++ quoted path ++ judged_text faults
+abbrev pub document_text : List ℕ → ℕ → Option ℕ → List ℕ
+document_text path faults warnings = codes "{\"document\":" ++ quoted path ++ judged_text faults ++ count_member warnings ++ codes "}\n"
 
 -- the record of the schema of the texts under these paths
 abbrev pub paths_text : List (List ℕ) → List ℕ
 paths_text paths = join_by quoted (codes ",") paths
 
 abbrev pub schema_text : List (List ℕ) → ℕ → List ℕ
-schema_text paths faults = codes "{\"schema\":[" ++ paths_text paths ++ codes "]" ++ judged_text faults
+schema_text paths faults = codes "{\"schema\":[" ++ paths_text paths ++ codes "]" ++ judged_text faults ++ codes "}\n"
 
 -- the record of a text of a kind that cannot be read
 abbrev pub unread_text : List ℕ → List ℕ → List ℕ → List ℕ
@@ -62,4 +72,4 @@ unread_text kind path reason = named_text kind path ++ codes ",\"read\":false,\"
 abbrev pub summary_text : Tally → List ℕ
 summary_text t =
     codes "{\"summary\":{\"documents\":" ++ decimal t.documents ++ codes ",\"refused\":" ++ decimal t.refused ++ codes ",\"unread\":" ++ decimal t.unread
-    ++ codes ",\"faults\":" ++ decimal t.faults ++ codes "}}\n"
+    ++ codes ",\"faults\":" ++ decimal t.faults ++ count_member (counted_at t.lints t.warnings) ++ codes "}}\n"

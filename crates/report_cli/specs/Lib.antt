@@ -1,4 +1,4 @@
 pub mod Asked
-pub mod Answers
 pub mod Counts
+pub mod Answers
 pub mod Folding

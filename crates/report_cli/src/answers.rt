@@ -1,19 +1,36 @@
 //! The lines that answer a batch, and the records among lines of JSON.
 
 ghost use Rattle.std.specs.Prelude.{◌≡◌, IfOk, map, option_map, string_bytes};
-ghost use Rattle.report_cli.specs.Answers.{accepted_text, refused_text, wrong_text, schema_text, paths_text, document_text, unread_text, summary_text};
+ghost use Rattle.report_cli.specs.Answers.{accepted_text, warnings_members, count_member, refused_text, wrong_text, schema_text, paths_text, document_text, unread_text, summary_text};
 
 use crate::asked::Why;
 use crate::tally::Tally;
 use report_forms::quoted;
 use std::alloc::{AllocError, Global};
 
-/// The answer to a document that is accepted: `{"id":ID,"accepted":true,"written":TEXT}`. The id is JSON.
-pub(crate) fn accepted_line(alloc: Global, id: &str, written: &str) -> Result<String, AllocError>
-    ensures { IfOk result (λ line. string_bytes line ≡ accepted_text id.now written.now) }
+/// The answer to a document that is accepted: `{"id":ID,"accepted":true,"written":TEXT}`, with these members after them. The id is JSON.
+pub(crate) fn accepted_line(
+    alloc: Global,
+    id: &str,
+    written: &str,
+    members: &str,
+) -> Result<String, AllocError>
+    ensures { IfOk result (λ line. string_bytes line ≡ accepted_text id.now written.now members.now) }
 {
     let written = quoted(alloc, written)?;
-    format!(in alloc; "{{\"id\":{id},\"accepted\":true,\"written\":{written}}}\n")
+    format!(in alloc; "{{\"id\":{id},\"accepted\":true,\"written\":{written}{members}}}\n")
+}
+
+/// Its members for warnings: `,"warnings":[WARNINGS],"left_out":N`. The warnings are JSON, with a comma between each two; N more are
+/// left out.
+pub(crate) fn warnings_members(
+    alloc: Global,
+    warnings: &str,
+    left_out: usize,
+) -> Result<String, AllocError>
+    ensures { IfOk result (λ members. string_bytes members ≡ warnings_members warnings.now left_out) }
+{
+    format!(in alloc; ",\"warnings\":[{warnings}],\"left_out\":{left_out}")
 }
 
 /// The answer to a document that is refused: `{"id":ID,"accepted":false,"faults":[FAULTS],"left_out":N}`. The id is JSON, and so
@@ -81,17 +98,31 @@ fn quoted_paths(alloc: Global, paths: &[String]) -> Result<String, AllocError>
     Ok(list)
 }
 
-/// The record of a document that is read: `{"document":PATH,"accepted":true,"faults":0}`.
+/// The member for the number of warnings, if they are told: `,"warnings":N`.
+fn count_member(alloc: Global, warnings: Option<usize>) -> Result<String, AllocError>
+    ensures { IfOk result (λ member. string_bytes member ≡ count_member warnings) }
+{
+    match warnings {
+        None => Ok(String::new(alloc)),
+        Some(warnings) => format!(in alloc; ",\"warnings\":{warnings}"),
+    }
+}
+
+/// The record of a document that is read: `{"document":PATH,"accepted":true,"faults":0}`, with the number of warnings if they are told.
 pub(crate) fn document_record(
     alloc: Global,
     path: &str,
     faults: usize,
+    warnings: Option<usize>,
 ) -> Result<String, AllocError>
-    ensures { IfOk result (λ line. string_bytes line ≡ document_text path.now faults) }
+    ensures { IfOk result (λ line. string_bytes line ≡ document_text path.now faults warnings) }
 {
     let path = quoted(alloc, path)?;
     let accepted = faults == 0;
-    format!(in alloc; "{{\"document\":{path},\"accepted\":{accepted},\"faults\":{faults}}}\n")
+    let warnings = count_member(alloc, warnings)?;
+    format!(in alloc;
+        "{{\"document\":{path},\"accepted\":{accepted},\"faults\":{faults}{warnings}}}\n"
+    )
 }
 
 /// The record of a document, or of a text of the schema, that cannot be read: `{"KIND":PATH,"read":false,"error":REASON}`.
@@ -108,7 +139,8 @@ pub(crate) fn unread_record(
     format!(in alloc; "{{\"{kind}\":{path},\"read\":false,\"error\":{reason}}}\n")
 }
 
-/// The last record: `{"summary":{"documents":N,"refused":N,"unread":N,"faults":N}}`.
+/// The last record: `{"summary":{"documents":N,"refused":N,"unread":N,"faults":N}}`, with the number of warnings if
+/// they are told.
 pub(crate) fn summary_record(alloc: Global, tally: Tally) -> Result<String, AllocError>
     ensures { IfOk result (λ line. string_bytes line ≡ summary_text tally) }
 {
@@ -117,9 +149,12 @@ pub(crate) fn summary_record(alloc: Global, tally: Tally) -> Result<String, Allo
         refused,
         unread,
         faults,
+        warnings,
+        lints,
         ..
     } = tally;
+    let warnings = count_member(alloc, lints.counted(warnings))?;
     format!(in alloc;
-        "{{\"summary\":{{\"documents\":{documents},\"refused\":{refused},\"unread\":{unread},\"faults\":{faults}}}}}\n"
+        "{{\"summary\":{{\"documents\":{documents},\"refused\":{refused},\"unread\":{unread},\"faults\":{faults}{warnings}}}}}\n"
     )
 }

@@ -1,12 +1,12 @@
 //! The lines of a batch, and the answers to them.
 
-use crate::answers::{accepted_line, refused_line, wrong_line};
+use crate::answers::{accepted_line, refused_line, warnings_members, wrong_line};
 use crate::asked::{Asked, Why, request_of};
 use crate::files::{Stop, put, reason_of, unread};
-use crate::settings::Settings;
+use crate::settings::{LintLevel, Settings};
 use crate::tally::Tally;
 use crate::telling::tell_cut;
-use report_forms::Entry;
+use report_forms::{Entry, Severity};
 use std::alloc::{AllocError, Global};
 use std::io;
 
@@ -39,16 +39,35 @@ pub fn answer_wrong(
     put(rt, &line)
 }
 
-/// Answers that a document is accepted, and how it is written.
+/// Answers that a document is accepted, how it is written, and with as many of its warnings as are asked for.
 pub fn answer_accepted(
     rt: &HostRuntime,
+    settings: &Settings,
     id: &str,
     written: &str,
+    warnings: &[Entry],
     tally: &mut Tally,
 ) -> Result<(), Stop> {
     tally.add_accepted();
-    let line = accepted_line(rt.alloc(), id, written)?;
+    tally.add_told(Severity::Warning, warnings.len());
+    tell_cut(rt, settings, Severity::Warning, warnings.len());
+    let members = members_of(rt.alloc(), settings, warnings)?;
+    let line = accepted_line(rt.alloc(), id, written, &members)?;
     put(rt, &line)
+}
+
+/// The members for warnings, if they are told.
+fn members_of(
+    alloc: Global,
+    settings: &Settings,
+    warnings: &[Entry],
+) -> Result<String, AllocError> {
+    if matches!(settings.lints, LintLevel::Allow) {
+        return Ok(String::new(alloc));
+    }
+    let (told, left_out) = warnings.split_at(warnings.len().min(settings.max_faults));
+    let told = objects(alloc, told)?;
+    warnings_members(alloc, &told, left_out.len())
 }
 
 /// Answers that a document is refused, with as many of its faults as are asked for.
@@ -60,15 +79,15 @@ pub fn answer_refused(
     tally: &mut Tally,
 ) -> Result<(), Stop> {
     tally.add_refused();
-    tally.add_faults(entries.len());
-    tell_cut(rt, settings, entries.len());
+    tally.add_told(Severity::Error, entries.len());
+    tell_cut(rt, settings, Severity::Error, entries.len());
     let (told, left_out) = entries.split_at(entries.len().min(settings.max_faults));
     let faults = objects(rt.alloc(), told)?;
     let line = refused_line(rt.alloc(), id, &faults, left_out.len())?;
     put(rt, &line)
 }
 
-/// The faults as JSON, with a comma between each two.
+/// The entries as JSON, with a comma between each two.
 fn objects(alloc: Global, entries: &[Entry]) -> Result<String, AllocError> {
     let mut objects = String::new(alloc);
     let mut separator = "";

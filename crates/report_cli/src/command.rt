@@ -7,6 +7,8 @@ use std::alloc::{AllocError, Global};
 static FORMS: [&str; 4] = ["text", "short", "json", "github"];
 /// The words for when the form `text` has colours.
 static COLORS: [&str; 3] = ["auto", "always", "never"];
+/// The words for what is denied.
+static DENIED: [&str; 1] = ["warnings"];
 
 /// The program's command.
 pub(crate) fn program_command<'a>(alloc: Global) -> Result<Command<'a>, AllocError> {
@@ -29,7 +31,7 @@ pub(crate) fn program_command<'a>(alloc: Global) -> Result<Command<'a>, AllocErr
         )
 }
 
-/// The command with the options that have a value.
+/// The command with the options for how it is told, and for texts.
 fn command_of_options<'a>(alloc: Global) -> Result<Command<'a>, AllocError> {
     Command::new(alloc, "graphql-report")
         .version("0.1.0")
@@ -44,12 +46,14 @@ fn command_of_options<'a>(alloc: Global) -> Result<Command<'a>, AllocError> {
         )
         .value_parser(FORMS.as_slice()))?
         .arg(color_option(alloc))?
+        .arg(warn_option(alloc))?
+        .arg(deny_option(alloc))?
         .arg(nesting_option(alloc))?
         .arg(option(
             alloc,
             "max-faults",
             "N",
-            "How many faults are told of the schema, and of each document [default: all]",
+            "How many faults are told of the schema, and faults or warnings of each document [default: all]",
         )
         .value_parser(clap::value_parser!(usize)))?
         .arg(
@@ -81,6 +85,25 @@ fn color_option<'a>(alloc: Global) -> Arg<'a> {
         "When `text` has colours: `auto` is on a terminal where NO_COLOR is empty [default: auto]",
     )
     .value_parser(COLORS.as_slice())
+}
+
+/// The option for warnings.
+fn warn_option<'a>(alloc: Global) -> Arg<'a> {
+    Arg::new(alloc, "warn")
+        .long("warn")
+        .action(ArgAction::SetTrue)
+        .help("Tells uses of what is deprecated in documents that are accepted")
+}
+
+/// The option for warnings that count as faults.
+fn deny_option<'a>(alloc: Global) -> Arg<'a> {
+    option(
+        alloc,
+        "deny",
+        "WHAT",
+        "Tells `warnings`, and the status is 1 if there is one",
+    )
+    .value_parser(DENIED.as_slice())
 }
 
 /// The option for how many brackets may be open at once.

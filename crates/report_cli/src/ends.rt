@@ -3,7 +3,7 @@
 use crate::answers::summary_record;
 use crate::files::{DEVICE, MEMORY, Stop, put};
 use crate::folders::files_of;
-use crate::settings::{Color, Format, Settings};
+use crate::settings::{Color, Format, LintLevel, Settings};
 use crate::tally::Tally;
 use clap::Error;
 use clap::error::ErrorKind;
@@ -48,7 +48,7 @@ pub fn read_settings(rt: &HostRuntime, words: &[String]) -> Result<Settings, u8>
             settings.documents = documents;
             Ok(settings)
         }
-        (Err(stop), _) | (_, Err(stop)) => Err(stop.tell(rt, Tally::new(false))),
+        (Err(stop), _) | (_, Err(stop)) => Err(stop.tell(rt, Tally::new(LintLevel::Allow, false))),
     }
 }
 
@@ -71,7 +71,7 @@ fn has_colours(rt: &HostRuntime, color: Color) -> bool {
 /// Tells why there are no settings, and gives the status. The help goes to standard output, as it was asked for.
 fn told_of_words(rt: &HostRuntime, error: &Error) -> u8 {
     if error.kind() == ErrorKind::OutOfMemory {
-        return Stop::Memory.tell(rt, Tally::new(false));
+        return Stop::Memory.tell(rt, Tally::new(LintLevel::Allow, false));
     }
     let printed = error.print(rt);
     if error.use_stderr() {

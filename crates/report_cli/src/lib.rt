@@ -26,6 +26,6 @@ pub use batch::{answer_accepted, answer_refused, answer_wrong, read_request};
 pub use ends::{read_settings, read_words, tell_end};
 pub use files::{Stop, read_document, read_schema};
 pub use folding::{Printed, folded};
-pub use settings::{Format, Settings};
+pub use settings::{Format, LintLevel, Settings};
 pub use tally::Tally;
 pub use telling::{Telling, lines_of, sources_of, tell_progress};

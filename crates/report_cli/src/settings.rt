@@ -1,5 +1,8 @@
 //! Settings, and how they are read.
 
+ghost use Rattle.std.specs.Prelude.{◌≡◌};
+ghost use Rattle.report_cli.specs.Counts.{counted_at, denied_at};
+
 use crate::command::program_command;
 use clap::{ArgMatches, Error};
 use std::alloc::{AllocError, Global};
@@ -27,15 +30,49 @@ pub enum Color {
     Never,
 }
 
+/// What is done about uses of what is deprecated.
+#[derive(Clone, Copy)]
+pub enum LintLevel {
+    /// They are not told.
+    Allow,
+    Warn,
+    /// They are told, and the status is that of faults.
+    Deny,
+}
+
+impl LintLevel {
+    /// So many warnings, if they are told.
+    pub(crate) fn counted(self, warnings: usize) -> Option<usize>
+        ensures { result ≡ counted_at self warnings }
+    {
+        match self {
+            LintLevel::Allow => None,
+            LintLevel::Warn | LintLevel::Deny => Some(warnings),
+        }
+    }
+
+    /// So many warnings, if they are denied; else none.
+    pub(crate) fn denied(self, warnings: usize) -> usize
+        ensures { result ≡ denied_at self warnings }
+    {
+        match self {
+            LintLevel::Allow | LintLevel::Warn => 0,
+            LintLevel::Deny => warnings,
+        }
+    }
+}
+
 /// What the program's words ask for.
 pub struct Settings {
     /// How faults are told.
     pub format: Format,
     /// When there are colours.
     pub color: Color,
+    /// What is done about uses of what is deprecated.
+    pub lints: LintLevel,
     /// How many brackets may be open at once.
     pub nesting: usize,
-    /// How many faults are told of the schema, and of each document.
+    /// How many faults are told of the schema, and how many faults or warnings of each document.
     pub max_faults: usize,
     /// The paths of the schema's texts, in order.
     pub schemas: Vec<String>,
@@ -52,6 +89,7 @@ impl Drop for Settings {
         let Settings {
             format: _,
             color: _,
+            lints: _,
             nesting: _,
             max_faults: _,
             schemas: _,
@@ -63,8 +101,8 @@ impl Drop for Settings {
 }
 
 impl Settings {
-    /// Reads the words, the program's name first: `[--format text|short|json|github] [--color auto|always|never] [--nesting N]
-    /// [--max-faults N] --schema FILE [--schema FILE].. [--batch] [--quiet] [DOCUMENT..]`.
+    /// Reads the words, the program's name first: `[--format text|short|json|github] [--color auto|always|never] [--warn]
+    /// [--deny warnings] [--nesting N] [--max-faults N] --schema FILE [--schema FILE].. [--batch] [--quiet] [DOCUMENT..]`.
     ///
     /// An error has the text for the user: a fault of the words, what `--help` or `--version` shows, or out of memory.
     pub fn from_words(alloc: Global, words: &[String]) -> Result<Settings, Error> {
@@ -86,6 +124,11 @@ fn settings_in(alloc: Global, matches: &ArgMatches<'_>) -> Result<Settings, Allo
             Some("always") => Color::Always,
             Some("never") => Color::Never,
             _ => Color::Auto,
+        },
+        lints: match matches.get_str("deny") {
+            Some(_) => LintLevel::Deny,
+            None if matches.get_flag("warn") => LintLevel::Warn,
+            None => LintLevel::Allow,
         },
         nesting: matches.get_one::<usize>("nesting").unwrap_or(NESTING),
         max_faults: matches.get_one::<usize>("max-faults").unwrap_or(usize::MAX),

@@ -1,13 +1,15 @@
 //! How much was found.
 
-ghost use Rattle.std.specs.Prelude.{◌≡◌, ◌++◌, ◌<◌, true, IfOk, OnOk, string_bytes};
-ghost use Rattle.report_cli.specs.Counts.{added, ending, counts_words, words_of};
+ghost use Rattle.std.specs.Prelude.{◌≡◌, ◌+◌, ◌++◌, ◌<◌, true, IfOk, OnOk, string_bytes};
+ghost use Rattle.report_cli.specs.Counts.{added, with_told, denied_at, ending, counts_words, warnings_words, words_of};
 
+use crate::settings::LintLevel;
+use report_forms::Severity;
 use std::alloc::{AllocError, Global};
 
 /// The status if all is accepted.
 const ACCEPTED: u8 = 0;
-/// The status if a document or the schema is refused.
+/// The status if a document or the schema is refused, or a warning is told that is denied.
 const REFUSED: u8 = 1;
 /// The status if a document cannot be read.
 const UNREAD: u8 = 3;
@@ -23,20 +25,26 @@ pub struct Tally {
     pub unread: usize,
     /// How many faults are told of them, or of the schema.
     pub faults: usize,
+    /// How many warnings are told of the others.
+    pub warnings: usize,
+    /// What is done about uses of what is deprecated.
+    pub lints: LintLevel,
     /// Whether the schema is refused, or is all that was asked for.
     pub is_of_schema: bool,
 }
 
 impl Tally {
     /// Nothing is found yet.
-    pub fn new(is_of_schema: bool) -> Tally
-        ensures { result ≡ record { documents = 0; refused = 0; unread = 0; faults = 0; is_of_schema = is_of_schema } }
+    pub fn new(lints: LintLevel, is_of_schema: bool) -> Tally
+        ensures { result ≡ record { documents = 0; refused = 0; unread = 0; faults = 0; warnings = 0; lints = lints; is_of_schema = is_of_schema } }
     {
         Tally {
             documents: 0,
             refused: 0,
             unread: 0,
             faults: 0,
+            warnings: 0,
+            lints,
             is_of_schema,
         }
     }
@@ -56,11 +64,14 @@ impl Tally {
         self.refused = self.refused.saturating_add(1);
     }
 
-    /// Adds so many faults that are told.
-    pub fn add_faults(&mut self, faults: usize)
-        ensures { self.new ≡ record self.old { faults = added self.old.faults faults } }
+    /// Adds so many faults, or warnings, that are told.
+    pub fn add_told(&mut self, severity: Severity, told: usize)
+        ensures { self.new ≡ with_told severity self.old told }
     {
-        self.faults = self.faults.saturating_add(faults);
+        match severity {
+            Severity::Error => self.faults = self.faults.saturating_add(told),
+            Severity::Warning => self.warnings = self.warnings.saturating_add(told),
+        }
     }
 
     /// Adds a document that cannot be read.
@@ -78,27 +89,29 @@ impl Tally {
         self.is_of_schema = true;
     }
 
-    /// The status of what was found: 3 if a document could not be read, else 1 if there is a fault, else 0.
+    /// The status of what was found: 3 if a document could not be read, else 1 if there is a fault, or a warning that is denied, else 0.
     pub fn status(self) -> u8
         ensures unread { 0 < self.unread → result ≡ 3 }
-        ensures refused { self.unread ≡ 0 → 0 < self.faults → result ≡ 1 }
-        ensures accepted { self.unread ≡ 0 → self.faults ≡ 0 → result ≡ 0 }
+        ensures refused { self.unread ≡ 0 → 0 < self.faults + denied_at self.lints self.warnings → result ≡ 1 }
+        ensures accepted { self.unread ≡ 0 → self.faults + denied_at self.lints self.warnings ≡ 0 → result ≡ 0 }
     {
         if self.unread > 0 {
             UNREAD
-        } else if self.faults > 0 {
+        } else if self.faults > 0 || self.lints.denied(self.warnings) > 0 {
             REFUSED
         } else {
             ACCEPTED
         }
     }
 
-    /// How much was found, in words: `3 faults in 2 of 40 documents`, or `40 documents accepted`.
+    /// How much was found, in words: `3 faults in 2 of 40 documents`, or `40 documents accepted`, and the
+    /// warnings and unread documents, if there are any.
     pub fn words(self, alloc: Global) -> Result<String, AllocError>
         ensures { IfOk result (λ words. string_bytes words ≡ words_of self) }
     {
         let mut words = String::new(alloc);
         self.push_counts(&mut words)?;
+        self.push_warnings(&mut words)?;
         if self.unread > 0 {
             write!(words, ", {} not read", self.unread)?;
         }
@@ -115,6 +128,7 @@ impl Tally {
             unread,
             faults,
             is_of_schema,
+            ..
         } = self;
         let ending = plural(faults);
         if is_of_schema && faults == 0 {
@@ -133,6 +147,18 @@ impl Tally {
             out,
             "{faults} fault{ending} in {refused} of {documents} document{ending_of_documents}"
         )
+    }
+
+    /// Adds how many warnings there are, if there is one.
+    fn push_warnings(self, out: &mut String) -> Result<(), AllocError>
+        ensures { OnOk result (string_bytes out.new ≡ string_bytes out.old ++ warnings_words self.warnings) }
+    {
+        let warnings = self.warnings;
+        if warnings == 0 {
+            return Ok(());
+        }
+        let ending = plural(warnings);
+        write!(out, ", {warnings} warning{ending}")
     }
 }
 

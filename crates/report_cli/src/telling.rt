@@ -1,15 +1,15 @@
-//! Telling faults in the form that is asked for.
+//! Telling faults and warnings in the form that is asked for.
 
 use crate::answers::{document_record, schema_record};
 use crate::files::{Stop, put};
 use crate::folding::{Printed, folded};
 use crate::settings::{Format, Settings};
 use crate::tally::Tally;
-use report_forms::{Entry, Lines, Source};
+use report_forms::{Entry, Lines, Severity, Source};
 use std::alloc::{AllocError, Global};
 use std::io::IsTerminal;
 
-/// How many faults of the rules a check tells at most.
+/// How many faults of the rules a check tells at most, and how many warnings.
 const MOST_TOLD: usize = 1_000;
 /// Of more documents than this the progress is told, each time when so many are done.
 const MANY: usize = 200;
@@ -22,37 +22,55 @@ pub struct Telling<'a> {
 }
 
 impl Telling<'_> {
-    /// Counts the faults that are told of a document, or of the schema if there is no path, and prints as many as are asked
-    /// for. Lines of JSON are for programs, which fold them as they like: there each fault has its line, and after them the
+    /// Counts the faults that are told of a document, or of the schema if there is no path, or the warnings, and prints as many
+    /// as are asked for. Lines of JSON are for programs, which fold them as they like: there each has its line, and after them the
     /// document or the schema has one, also if it is accepted.
     pub fn tell(
         &self,
         rt: &HostRuntime,
         document: Option<&str>,
+        severity: Severity,
         entries: &[Entry],
         tally: &mut Tally,
     ) -> Result<(), Stop> {
-        tell_cut(rt, self.settings, entries.len());
+        tell_cut(rt, self.settings, severity, entries.len());
         let most = self.settings.max_faults;
         if matches!(self.settings.format, Format::Json) {
-            tally.add_faults(entries.len());
+            tally.add_told(severity, entries.len());
             for entry in &entries[..entries.len().min(most)] {
                 print_formed(rt, Format::Json, entry)?;
             }
-            let record = match document {
-                None => schema_record(rt.alloc(), &self.settings.schemas, entries.len())?,
-                Some(path) => document_record(rt.alloc(), path, entries.len())?,
-            };
+            let record = self.record(rt.alloc(), document, severity, entries.len())?;
             return put(rt, &record);
         }
         let printed = folded(rt.alloc(), entries)?;
-        tally.add_faults(faults_in(&printed));
+        tally.add_told(severity, entries_in(&printed));
         let (told, rest) = printed.split_at(printed.len().min(most));
         self.print_folded(rt, entries, told)?;
-        print_more(rt, faults_in(rest), None)
+        print_more(rt, entries_in(rest), None)
     }
 
-    /// Prints each fault in its form, and how many it stands for.
+    /// The record of a document, or of the schema if there is no path, of which so many faults or warnings are told.
+    fn record(
+        &self,
+        alloc: Global,
+        document: Option<&str>,
+        severity: Severity,
+        told: usize,
+    ) -> Result<String, AllocError> {
+        let (faults, warnings) = match severity {
+            Severity::Error => (told, 0),
+            Severity::Warning => (0, told),
+        };
+        match document {
+            None => schema_record(alloc, &self.settings.schemas, faults),
+            Some(path) => {
+                document_record(alloc, path, faults, self.settings.lints.counted(warnings))
+            }
+        }
+    }
+
+    /// Prints each entry in its form, and how many it stands for.
     fn print_folded(
         &self,
         rt: &HostRuntime,
@@ -78,17 +96,19 @@ pub fn tell_progress(rt: &HostRuntime, settings: &Settings, done: usize) {
     }
 }
 
-/// Says on standard error that there may be more faults, if there are as many as a check tells of the rules. Stages that tell more
-/// tell all.
-pub(crate) fn tell_cut(rt: &HostRuntime, settings: &Settings, told: usize) {
+/// Says on standard error that there may be more faults, if there are as many as a check tells of the rules, or more warnings. Stages
+/// that tell more tell all.
+pub(crate) fn tell_cut(rt: &HostRuntime, settings: &Settings, severity: Severity, told: usize) {
     if told == MOST_TOLD && !settings.quiet {
-        let _ = eprintln!(rt;
-            "note: a check tells at most 1,000 faults of the rules: there may be more"
-        );
+        let what = match severity {
+            Severity::Error => "faults of the rules",
+            Severity::Warning => "warnings",
+        };
+        let _ = eprintln!(rt; "note: a check tells at most 1,000 {what}: there may be more");
     }
 }
 
-/// Says how many faults are left out, if any are: of the rule and the message that were told last, or of all if there is no
+/// Says how many entries are left out, if any are: of the rule and the message that were told last, or of all if there is no
 /// rule.
 fn print_more(rt: &HostRuntime, more: usize, rule: Option<&str>) -> Result<(), Stop> {
     if more == 0 {
@@ -101,16 +121,16 @@ fn print_more(rt: &HostRuntime, more: usize, rule: Option<&str>) -> Result<(), S
     put(rt, &line?)
 }
 
-/// How many faults these are, with those that each stands for.
-fn faults_in(printed: &[Printed]) -> usize {
-    let mut faults = 0usize;
+/// How many entries these are, with those that each stands for.
+fn entries_in(printed: &[Printed]) -> usize {
+    let mut entries = 0usize;
     for one in printed {
-        faults = faults.saturating_add(1).saturating_add(one.more);
+        entries = entries.saturating_add(1).saturating_add(one.more);
     }
-    faults
+    entries
 }
 
-/// Prints a fault in the form.
+/// Prints an entry in the form.
 fn print_formed(rt: &HostRuntime, format: Format, entry: &Entry) -> Result<(), Stop> {
     let alloc = rt.alloc();
     let formed = match format {

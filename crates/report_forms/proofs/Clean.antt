@@ -38,7 +38,7 @@ clean-line line new l e shown =
     subst (All (λ c. (is_control c && not (c == 10)) ≡ false)) (sym (parts ∙ ap (λ cs. chars line ++ cs) feed))
     (All-append (λ c. (is_control c && not (c == 10)) ≡ false) (chars line) (10 ∷ []) (also (chars line) shown) one)
 
-clean-both : (old line : List ℕ) → IsUtf8 old → HasOnlyLineFeeds old → HasOnlyLineFeeds line → HasOnlyLineFeeds (old ++ line)
+pub clean-both : (old line : List ℕ) → IsUtf8 old → HasOnlyLineFeeds old → HasOnlyLineFeeds line → HasOnlyLineFeeds (old ++ line)
 clean-both old line o before h =
     subst (All (λ c. (is_control c && not (c == 10)) ≡ false)) (sym (chars-append old line o)) (All-append (λ c. (is_control c && not (c == 10)) ≡ false) (chars old) (chars line) before h)
 

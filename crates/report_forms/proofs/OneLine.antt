@@ -2,10 +2,17 @@
 use Rattle.std.proofs.Common.{◌≡◌, ℕ, zero, suc, ◌+◌, ◌/◌, ◌%◌, ◌≤◌, Bool, true, false, cond, ◌&&◌, ◌||◌, List, [], ◌∷◌, ◌++◌, refl, ◌∙◌, ap, arith, inl, inr, decimal}
 use Rattle.std.proofs.lemmas.Bool.Decides.{leb_tells, eqb_tells}
 use Rattle.std.specs.Fmt.{digit_glyph, digits, digits_onto}
-use Rattle.std.specs.Prelude.{Result, Ok, Err, OnOk, nat_le, nat_lt, ◌==◌}
+use Rattle.std.specs.Prelude.{Option, None, Some, option_map, codes, string_bytes, nat_le, nat_lt, ◌==◌}
 use Rattle.std.specs.Char.{digit_char}
 use Rattle.json.specs.Print.{escape_letter, escape_byte, escape, quoted}
-use Rattle.report_forms.specs.Forms.{one_line}
+use Rattle.std.specs.List.{flat_map, join_by}
+use Rattle.report_forms.specs.Forms.{one_line, severity_word}
+use Rattle.report_forms.specs.Objects.{place_members, start_members, text_member, related_object, related_member, hint_member, field_member, fields_member, object}
+use Rattle.report_forms.specs.declared.position.Position.{Position}
+use Rattle.report_forms.specs.declared.entry.Place.{Place}
+use Rattle.report_forms.specs.declared.entry.Related.{Related}
+use Rattle.report_forms.specs.declared.entry.Field.{Field}
+use Rattle.report_forms.specs.declared.entry.Entry.{Entry}
 
 both : (a b : Bool) → a ≡ true → b ≡ true → (a && b) ≡ true
 both a b p q = ap (λ x. x && b) p ∙ q
@@ -95,7 +102,77 @@ one_line-same bs ds e h = ap one_line e ∙ h
 pub one_line-number : (front : List ℕ) (n : ℕ) (back : List ℕ) → one_line front ≡ true → one_line back ≡ true → one_line (front ++ (decimal n ++ back)) ≡ true
 one_line-number front n back f b = one_line-append front (decimal n ++ back) f (one_line-append (decimal n) back (one_line-decimal n) b)
 
--- a text that is written after another
-pub one_line-written : {T E : Type 0} (r : Result T E) (old new more : List ℕ) → one_line old ≡ true → one_line more ≡ true → OnOk r (new ≡ old ++ more) → OnOk r (one_line new ≡ true)
-one_line-written (Ok x) old new more before h e = one_line-same new (old ++ more) e (one_line-append old more before h)
-one_line-written (Err x) old new more before h e = tt
+one_line-text : (head text : List ℕ) → one_line head ≡ true → one_line (text_member head text) ≡ true
+one_line-text head text h = one_line-append head (quoted text) h (one_line-quoted text)
+
+one_line-place : (place : Option Place) → one_line (place_members place) ≡ true
+one_line-place None = refl
+one_line-place (Some p) =
+    one_line-number (codes ",\"line\":") p.start.line _ refl
+    (one_line-number (codes ",\"column\":") p.start.column _ refl
+    (one_line-number (codes ",\"end\":{\"line\":") p.end.line _ refl
+    (one_line-number (codes ",\"column\":") p.end.column _ refl
+    (one_line-number (codes "},\"offset\":") p.offset _ refl
+    (one_line-append (codes ",\"length\":") (decimal p.length) refl (one_line-decimal p.length))))))
+
+one_line-start : (start : Option Position) → one_line (start_members start) ≡ true
+one_line-start None = refl
+one_line-start (Some p) =
+    one_line-number (codes ",\"line\":") p.line _ refl (one_line-append (codes ",\"column\":") (decimal p.column) refl (one_line-decimal p.column))
+
+-- texts with a comma between each two
+module _ {X : Type 0} (f : X → List ℕ) (each : (x : X) → one_line (f x) ≡ true) where
+  one_line-others : (xs : List X) → one_line (flat_map (λ x. codes "," ++ f x) xs) ≡ true
+  one_line-others [] = refl
+  one_line-others (x ∷ xs) =
+      one_line-append (codes "," ++ f x) (flat_map (λ y. codes "," ++ f y) xs) (one_line-append (codes ",") (f x) refl (each x)) (one_line-others xs)
+
+  one_line-list : (xs : List X) → one_line (join_by f (codes ",") xs) ≡ true
+  one_line-list [] = refl
+  one_line-list (x ∷ xs) = one_line-append (f x) (flat_map (λ y. codes "," ++ f y) xs) (each x) (one_line-others xs)
+
+one_line-other : (r : Related) → one_line (related_object r) ≡ true
+one_line-other r =
+    let path = text_member (codes "{\"path\":") (string_bytes r.path) in
+    let words = text_member (codes ",\"words\":") (string_bytes r.words) in
+    one_line-append (path ++ start_members r.start ++ words) (codes "}")
+    (one_line-append (path ++ start_members r.start) words
+    (one_line-append path (start_members r.start) (one_line-text (codes "{\"path\":") (string_bytes r.path) refl) (one_line-start r.start))
+    (one_line-text (codes ",\"words\":") (string_bytes r.words) refl)) refl
+
+one_line-related : (related : List Related) → one_line (related_member related) ≡ true
+one_line-related related =
+    let others = join_by related_object (codes ",") related in
+    one_line-append (codes ",\"related\":[" ++ others) (codes "]") (one_line-append (codes ",\"related\":[") others refl (one_line-list related_object one_line-other related)) refl
+
+one_line-hint : (hint : Option (List ℕ)) → one_line (hint_member hint) ≡ true
+one_line-hint None = refl
+one_line-hint (Some hint) = one_line-text (codes ",\"hint\":") hint refl
+
+one_line-field : (f : Field) → one_line (field_member f) ≡ true
+one_line-field f = one_line-append (quoted f.name.now) (text_member (codes ":") (string_bytes f.value)) (one_line-quoted f.name.now) (one_line-text (codes ":") (string_bytes f.value) refl)
+
+one_line-fields : (fields : List Field) → one_line (fields_member fields) ≡ true
+one_line-fields fields =
+    let members = join_by field_member (codes ",") fields in
+    one_line-append (codes ",\"fields\":{" ++ members) (codes "}}") (one_line-append (codes ",\"fields\":{") members refl (one_line-list field_member one_line-field fields)) refl
+
+pub one_line-object : (e : Entry) → one_line (object e) ≡ true
+one_line-object e =
+    let path = text_member (codes "{\"path\":") (string_bytes e.path) in
+    let place = place_members e.place in
+    let severity = text_member (codes ",\"severity\":") (severity_word e.severity) in
+    let rule = text_member (codes ",\"rule\":") e.rule.now in
+    let message = text_member (codes ",\"message\":") (string_bytes e.message) in
+    let related = related_member e.related.items in
+    let hint = hint_member (option_map string_bytes e.hint) in
+    one_line-append (path ++ place ++ severity ++ rule ++ message ++ related ++ hint) (fields_member e.fields.items)
+    (one_line-append (path ++ place ++ severity ++ rule ++ message ++ related) hint
+    (one_line-append (path ++ place ++ severity ++ rule ++ message) related
+    (one_line-append (path ++ place ++ severity ++ rule) message
+    (one_line-append (path ++ place ++ severity) rule
+    (one_line-append (path ++ place) severity
+    (one_line-append path place (one_line-text (codes "{\"path\":") (string_bytes e.path) refl) (one_line-place e.place))
+    (one_line-text (codes ",\"severity\":") (severity_word e.severity) refl)) (one_line-text (codes ",\"rule\":") e.rule.now refl))
+    (one_line-text (codes ",\"message\":") (string_bytes e.message) refl)) (one_line-related e.related.items)) (one_line-hint (option_map string_bytes e.hint)))
+    (one_line-fields e.fields.items)

@@ -1,14 +1,16 @@
--- The forms of a fault.
+-- The forms of a fault, or of a warning.
 use Rattle.std.specs.Prelude.{◌≡◌, ℕ, Bool, true, nat_le, List, [], ◌∷◌, ◌++◌, false, codes, decimal, length, max, replicate, Option, Some, None, option_map, string_bytes, chars}
 use Rattle.std.specs.List.{flat_map, list_all}
 use Rattle.report_forms.specs.Escapes.{escaped_text}
 use Rattle.report_forms.specs.declared.position.Position.{Position}
-use Rattle.report_forms.specs.Shown.{shown_text}
+use Rattle.report_forms.specs.Shown.{shown_text, HasOnlyLineFeeds}
 use Rattle.unicode_width.specs.Width.{str_width}
 use Rattle.report_forms.specs.declared.entry.Place.{Place}
 use Rattle.report_forms.specs.declared.entry.Excerpt.{Excerpt}
 use Rattle.report_forms.specs.declared.entry.Related.{Related}
 use Rattle.report_forms.specs.declared.entry.Entry.{Entry}
+use Rattle.report_forms.specs.declared.severity.Severity.{Severity}
+use Rattle.report_forms.specs.declared.severity.Severity.TheVariants.{Error, Warning}
 
 -- where a fault begins
 abbrev pub start_of : Entry → Option Position
@@ -19,9 +21,20 @@ abbrev pub position_text : Option Position → List ℕ
 position_text None = []
 position_text (Some p) = codes ":" ++ decimal p.line ++ codes ":" ++ decimal p.column
 
+-- the word for a fault, and for a warning
+abbrev pub severity_word : Severity → List ℕ
+severity_word Error = codes "error"
+severity_word Warning = codes "warning"
+
 -- a fault in one line, from its parts
 abbrev pub heading : Entry → List ℕ
-heading e = string_bytes e.path ++ position_text (start_of e) ++ codes ": error[" ++ e.rule.now ++ codes "]: " ++ string_bytes e.message
+heading e = string_bytes e.path ++ position_text (start_of e) ++ codes ": " ++ severity_word e.severity ++ codes "[" ++ e.rule.now ++ codes "]: " ++ string_bytes e.message
+
+-- lines, the first of which is that one; none has control characters
+pub record IsHeaded (e : Entry) (text : List ℕ) : Type 0 where
+  pub below : List ℕ
+  pub clean : HasOnlyLineFeeds below
+  pub lines_are : text ≡ shown_text (heading e) ++ 10 ∷ [] ++ below
 
 -- the columns that a text takes as it is shown
 abbrev pub width_of : List ℕ → ℕ
@@ -52,10 +65,13 @@ abbrev pub hint_line : Option (List ℕ) → List ℕ
 hint_line None = []
 hint_line (Some hint) = codes "%0A= help: " ++ escaped_text false hint
 
--- a fault as a workflow command
+-- how a workflow command begins; and a fault as one
+abbrev pub command_head : Severity → List ℕ
+command_head s = codes "::" ++ severity_word s ++ codes " file="
+
 abbrev pub command : Entry → List ℕ
 command e =
-    codes "::error file=" ++ escaped_text true (string_bytes e.path) ++ properties e.place ++ codes ",title=" ++ escaped_text true e.rule.now
+    command_head e.severity ++ escaped_text true (string_bytes e.path) ++ properties e.place ++ codes ",title=" ++ escaped_text true e.rule.now
     ++ codes "::" ++ escaped_text false (string_bytes e.message) ++ flat_map related_line e.related.items ++ hint_line (option_map string_bytes e.hint)
 
 -- bytes in one line: none is a control character of ASCII, apart from DELETE

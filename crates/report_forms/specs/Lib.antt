@@ -5,6 +5,7 @@ pub mod Starts
 pub mod Shown
 pub mod Escapes
 pub mod Forms
+pub mod Objects
 pub mod Colours
 pub mod Closest
 pub mod Places

@@ -1,6 +1,7 @@
 //! What is told of a fault.
 
 use crate::position::Position;
+use crate::severity::Severity;
 
 /// Where in a text a fault is.
 #[derive(Clone, Copy)]
@@ -74,7 +75,9 @@ pub struct Entry {
     pub path: String,
     /// Where in the text it is, if it has a place.
     pub place: Option<Place>,
-    /// The name of the rule that is broken.
+    /// Whether it is a fault or a warning.
+    pub severity: Severity,
+    /// The name of the rule that is broken, or of the warning.
     pub rule: &'static str,
     /// What is wrong.
     pub message: String,
@@ -93,6 +96,7 @@ impl Drop for Entry {
         let Entry {
             path: _,
             place: _,
+            severity: _,
             rule: _,
             message: _,
             excerpt: _,

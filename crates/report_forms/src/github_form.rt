@@ -3,16 +3,17 @@
 ghost use Rattle.std.specs.Prelude.{◌≡◌, ◌++◌, ◌∷◌, [], OnOk, IfOk, string_bytes};
 ghost use Rattle.std.specs.List.{flat_map};
 ghost use Rattle.report_forms.specs.Shown.{shown_text, HasOnlyLineFeeds};
-ghost use Rattle.report_forms.specs.Forms.{command, properties, related_line};
+ghost use Rattle.report_forms.specs.Forms.{command_head, command, properties, related_line};
 
 use crate::entry::{Entry, Place, Related};
 use crate::escapes::push_escaped;
 use crate::push_line::shown_line;
+use crate::severity::Severity;
 use crate::short_form::located;
 use std::alloc::{AllocError, Global};
 
 impl Entry {
-    /// The fault as a workflow command, `::error file=..,line=..,endLine=..,col=..,endColumn=..,title=RULE::MESSAGE`. Lines of the
+    /// The fault as a workflow command, `::SEVERITY file=..,line=..,endLine=..,col=..,endColumn=..,title=RULE::MESSAGE`. Lines of the
     /// message are other places that belong to it, and a hint if there is one.
     pub fn github(&self, alloc: Global) -> Result<String, AllocError>
         ensures value { IfOk result (λ text. string_bytes text ≡ shown_text (command self.now) ++ 10 ∷ []) }
@@ -27,7 +28,7 @@ impl Entry {
     fn push_command(&self, alloc: Global, out: &mut String) -> Result<(), AllocError>
         ensures { OnOk result (string_bytes out.new ≡ string_bytes out.old ++ command self.now) }
     {
-        push_escaped(out, "::error file=", &self.path, true)?;
+        push_escaped(out, command_head(self.severity), &self.path, true)?;
         push_place(out, self.place)?;
         push_escaped(out, ",title=", self.rule, true)?;
         push_escaped(out, "::", &self.message, false)?;
@@ -36,6 +37,16 @@ impl Entry {
             None => Ok(()),
             Some(hint) => push_escaped(out, "%0A= help: ", hint, false),
         }
+    }
+}
+
+/// How the command begins, up to its file.
+fn command_head(severity: Severity) -> &'static str
+    ensures { result.now ≡ command_head severity }
+{
+    match severity {
+        Severity::Error => "::error file=",
+        Severity::Warning => "::warning file=",
     }
 }
 

@@ -1,8 +1,10 @@
 //! A fault as a line of JSON.
 
-ghost use Rattle.std.specs.Prelude.{◌≡◌, true, OnOk, IfOk, string_bytes};
+ghost use Rattle.std.specs.Prelude.{◌≡◌, ◌++◌, ◌∷◌, [], true, codes, option_map, OnOk, IfOk, string_bytes};
+ghost use Rattle.std.specs.List.{join_by};
 ghost use Rattle.json.specs.Print.{quoted};
 ghost use Rattle.report_forms.specs.Forms.{one_line, IsOneLine};
+ghost use Rattle.report_forms.specs.Objects.{place_members, start_members, related_object, related_member, hint_member, field_member, fields_member, object};
 
 use crate::entry::{Entry, Field, Place, Related};
 use crate::position::Position;
@@ -11,9 +13,10 @@ use std::alloc::{AllocError, Global};
 
 impl Entry {
     /// The fault as a JSON object in a line: `path`; `line`, `column`, `end`, `offset` and `length`, which are null if it
-    /// has no place; `rule`, `message`, `related`, `hint`, and `fields`, the data of the fault.
+    /// has no place; `severity`, `rule`, `message`, `related`, `hint`, and `fields`, the data of the fault.
     pub fn json(&self, alloc: Global) -> Result<String, AllocError>
-        ensures { IfOk result (λ text. IsOneLine (string_bytes text)) }
+        ensures value { IfOk result (λ text. string_bytes text ≡ object self.now ++ 10 ∷ []) }
+        ensures line { IfOk result (λ text. IsOneLine (string_bytes text)) }
     {
         let object = self.object(alloc)?;
         format!(in alloc; "{object}\n")
@@ -21,20 +24,21 @@ impl Entry {
 
     /// The object, which ends in no line feed.
     pub fn object(&self, alloc: Global) -> Result<String, AllocError>
-        ensures { IfOk result (λ text. one_line (string_bytes text) ≡ true) }
+        ensures value { IfOk result (λ text. string_bytes text ≡ object self.now) }
+        ensures plain { IfOk result (λ text. one_line (string_bytes text) ≡ true) }
     {
         let mut out = String::new(alloc);
         self.push_object(alloc, &mut out)?;
         Ok(out)
     }
 
-    /// Adds the object, whose end `push_fields` adds.
+    /// Adds the object.
     fn push_object(&self, alloc: Global, out: &mut String) -> Result<(), AllocError>
-        requires { one_line (string_bytes out.old) ≡ true }
-        ensures { OnOk result (one_line (string_bytes out.new) ≡ true) }
+        ensures { OnOk result (string_bytes out.new ≡ string_bytes out.old ++ object self.now) }
     {
         push_text(alloc, out, "{\"path\":", &self.path)?;
         push_place(out, self.place)?;
+        push_text(alloc, out, ",\"severity\":", self.severity.word())?;
         push_text(alloc, out, ",\"rule\":", self.rule)?;
         push_text(alloc, out, ",\"message\":", &self.message)?;
         push_related(alloc, out, &self.related)?;
@@ -43,20 +47,9 @@ impl Entry {
     }
 }
 
-/// Adds what has no control character.
-fn push_plain(out: &mut String, text: &str) -> Result<(), AllocError>
-    requires text { one_line text.now ≡ true }
-    requires before { one_line (string_bytes out.old) ≡ true }
-    ensures { OnOk result (one_line (string_bytes out.new) ≡ true) }
-{
-    out.push_str(text)
-}
-
 /// Adds a text in JSON after a head.
 fn push_text(alloc: Global, out: &mut String, head: &str, text: &str) -> Result<(), AllocError>
-    requires head { one_line head.now ≡ true }
-    requires before { one_line (string_bytes out.old) ≡ true }
-    ensures { OnOk result (one_line (string_bytes out.new) ≡ true) }
+    ensures { OnOk result (string_bytes out.new ≡ string_bytes out.old ++ (head.now ++ quoted text.now)) }
 {
     let text = quoted(alloc, text)?;
     write!(out, "{head}{text}")
@@ -71,12 +64,10 @@ pub fn quoted(alloc: Global, text: &str) -> Result<String, AllocError>
 
 /// Adds the members of the place.
 fn push_place(out: &mut String, place: Option<Place>) -> Result<(), AllocError>
-    requires { one_line (string_bytes out.old) ≡ true }
-    ensures { OnOk result (one_line (string_bytes out.new) ≡ true) }
+    ensures { OnOk result (string_bytes out.new ≡ string_bytes out.old ++ place_members place) }
 {
     let Some(place) = place else {
-        return push_plain(
-            out,
+        return out.push_str(
             ",\"line\":null,\"column\":null,\"end\":null,\"offset\":null,\"length\":null",
         );
     };
@@ -94,54 +85,95 @@ fn push_place(out: &mut String, place: Option<Place>) -> Result<(), AllocError>
 
 /// Adds the places that belong to the fault.
 fn push_related(alloc: Global, out: &mut String, related: &[Related]) -> Result<(), AllocError>
-    requires { one_line (string_bytes out.old) ≡ true }
-    ensures { OnOk result (one_line (string_bytes out.new) ≡ true) }
+    ensures { OnOk result (string_bytes out.new ≡ string_bytes out.old ++ related_member related.now) }
 {
-    push_plain(out, ",\"related\":[")?;
-    let mut head = "{\"path\":";
-    for other in related {
-        push_text(alloc, out, head, &other.path)?;
-        push_start(out, other.start)?;
-        push_text(alloc, out, ",\"words\":", &other.words)?;
-        push_plain(out, "}")?;
-        head = ",{\"path\":";
+    out.push_str(",\"related\":[")?;
+    push_others(alloc, out, related)?;
+    out.push_str("]")
+}
+
+/// Adds these places, with a comma between each two.
+fn push_others(alloc: Global, out: &mut String, related: &[Related]) -> Result<(), AllocError>
+    ensures { OnOk result (string_bytes out.new ≡ string_bytes out.old ++ join_by related_object (codes ",") related.now) }
+{
+    let Some((first, others)) = related.split_first() else {
+        return Ok(());
+    };
+    push_other(alloc, out, "", first)?;
+    for other in others {
+        push_other(alloc, out, ",", other)?;
     }
-    push_plain(out, "]")
+    Ok(())
+}
+
+/// Adds such a place after a comma, or after nothing.
+fn push_other(
+    alloc: Global,
+    out: &mut String,
+    comma: &str,
+    other: &Related,
+) -> Result<(), AllocError>
+    ensures { OnOk result (string_bytes out.new ≡ string_bytes out.old ++ (comma.now ++ related_object other.now)) }
+{
+    out.push_str(comma)?;
+    push_text(alloc, out, "{\"path\":", &other.path)?;
+    push_start(out, other.start)?;
+    push_text(alloc, out, ",\"words\":", &other.words)?;
+    out.push_str("}")
 }
 
 /// Adds where such a place begins.
 fn push_start(out: &mut String, start: Option<Position>) -> Result<(), AllocError>
-    requires { one_line (string_bytes out.old) ≡ true }
-    ensures { OnOk result (one_line (string_bytes out.new) ≡ true) }
+    ensures { OnOk result (string_bytes out.new ≡ string_bytes out.old ++ start_members start) }
 {
     match start {
-        None => push_plain(out, ",\"line\":null,\"column\":null"),
+        None => out.push_str(",\"line\":null,\"column\":null"),
         Some(start) => { write!(out, ",\"line\":{},\"column\":{}", start.line, start.column) }
     }
 }
 
 /// Adds the hint.
 fn push_hint(alloc: Global, out: &mut String, hint: &Option<String>) -> Result<(), AllocError>
-    requires { one_line (string_bytes out.old) ≡ true }
-    ensures { OnOk result (one_line (string_bytes out.new) ≡ true) }
+    ensures { OnOk result (string_bytes out.new ≡ string_bytes out.old ++ hint_member (option_map string_bytes hint.now)) }
 {
     match hint {
-        None => push_plain(out, ",\"hint\":null"),
+        None => out.push_str(",\"hint\":null"),
         Some(words) => push_text(alloc, out, ",\"hint\":", words),
     }
 }
 
 /// Adds the data of the fault, and the end of the object.
 fn push_fields(alloc: Global, out: &mut String, fields: &[Field]) -> Result<(), AllocError>
-    requires { one_line (string_bytes out.old) ≡ true }
-    ensures { OnOk result (one_line (string_bytes out.new) ≡ true) }
+    ensures { OnOk result (string_bytes out.new ≡ string_bytes out.old ++ fields_member fields.now) }
 {
-    push_plain(out, ",\"fields\":{")?;
-    let mut head = "";
-    for field in fields {
-        push_text(alloc, out, head, field.name)?;
-        push_text(alloc, out, ":", &field.value)?;
-        head = ",";
+    out.push_str(",\"fields\":{")?;
+    push_members(alloc, out, fields)?;
+    out.push_str("}}")
+}
+
+/// Adds these data, with a comma between each two.
+fn push_members(alloc: Global, out: &mut String, fields: &[Field]) -> Result<(), AllocError>
+    ensures { OnOk result (string_bytes out.new ≡ string_bytes out.old ++ join_by field_member (codes ",") fields.now) }
+{
+    let Some((first, others)) = fields.split_first() else {
+        return Ok(());
+    };
+    push_member(alloc, out, "", first)?;
+    for field in others {
+        push_member(alloc, out, ",", field)?;
     }
-    push_plain(out, "}}")
+    Ok(())
+}
+
+/// Adds a text of the data after a comma, or after nothing.
+fn push_member(
+    alloc: Global,
+    out: &mut String,
+    comma: &str,
+    field: &Field,
+) -> Result<(), AllocError>
+    ensures { OnOk result (string_bytes out.new ≡ string_bytes out.old ++ (comma.now ++ field_member field.now)) }
+{
+    push_text(alloc, out, comma, field.name)?;
+    push_text(alloc, out, ":", &field.value)
 }

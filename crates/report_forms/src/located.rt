@@ -2,9 +2,11 @@
 
 ghost use Rattle.std.specs.Prelude.{◌≡◌, [], IfOk, string_bytes};
 ghost use Rattle.report_forms.specs.Places.{IsLocated};
+ghost use Rattle.report_forms.specs.declared.severity.Severity.TheVariants.{Error};
 
 use crate::entry::Entry;
 use crate::excerpt::excerpt_at;
+use crate::severity::Severity;
 use crate::source::{Source, path_at, place_at};
 use graphql_names::SourceSpan;
 use std::alloc::{AllocError, Global};
@@ -18,6 +20,7 @@ impl Entry {
         place: Option<SourceSpan>,
     ) -> Result<Entry, AllocError>
         ensures place { IfOk result (IsLocated sources.now name.now place) }
+        ensures severity { IfOk result (λ entry. entry.severity ≡ Error) }
         ensures rule { IfOk result (λ entry. entry.rule.now ≡ []) }
         ensures message { IfOk result (λ entry. string_bytes entry.message ≡ []) }
     {
@@ -27,6 +30,7 @@ impl Entry {
         Ok(Entry {
             path,
             place: place_at(sources, place),
+            severity: Severity::Error,
             rule: "",
             message: String::new(alloc),
             excerpt,

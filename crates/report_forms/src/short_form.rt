@@ -10,7 +10,7 @@ use crate::push_line::shown_line;
 use std::alloc::{AllocError, Global};
 
 impl Entry {
-    /// The fault in one line, `PATH:LINE:COLUMN: error[RULE]: MESSAGE`, without line and column if it has no place.
+    /// The fault in one line, `PATH:LINE:COLUMN: SEVERITY[RULE]: MESSAGE`, without line and column if it has no place.
     pub fn short(&self, alloc: Global) -> Result<String, AllocError>
         ensures value { IfOk result (λ text. string_bytes text ≡ shown_text (heading self.now) ++ 10 ∷ []) }
         ensures clean { IfOk result (λ text. HasOnlyLineFeeds (string_bytes text)) }
@@ -28,7 +28,8 @@ impl Entry {
             Some(place) => Some(place.start),
         };
         let place = located(alloc, &self.path, start)?;
-        format!(in alloc; "{place}: error[{}]: {}", self.rule, self.message)
+        let severity = self.severity.word();
+        format!(in alloc; "{place}: {severity}[{}]: {}", self.rule, self.message)
     }
 }
 

@@ -2,7 +2,7 @@
 
 ghost use Rattle.std.specs.Prelude.{◌≡◌, ◌++◌, ◌∷◌, [], codes, OnOk, IfOk, string_bytes};
 ghost use Rattle.report_forms.specs.Shown.{shown_text, HasOnlyLineFeeds};
-ghost use Rattle.report_forms.specs.Forms.{width_of, marks, excerpt_text};
+ghost use Rattle.report_forms.specs.Forms.{width_of, marks, excerpt_text, IsHeaded};
 
 use crate::entry::{Entry, Excerpt, Related};
 use crate::push_line::{push_line, push_times};
@@ -15,11 +15,13 @@ impl Entry {
     /// The fault in lines: the short form, the line of the text with the place marked under it, the other places that belong
     /// to it, and a hint if there is one.
     pub fn text(&self, alloc: Global) -> Result<String, AllocError>
-        ensures { IfOk result (λ text. HasOnlyLineFeeds (string_bytes text)) }
+        ensures heading { IfOk result (λ text. IsHeaded self.now (string_bytes text)) }
+        ensures clean { IfOk result (λ text. HasOnlyLineFeeds (string_bytes text)) }
     {
-        let mut out = self.short(alloc)?;
-        self.push_below(alloc, &mut out)?;
-        Ok(out)
+        let heading = self.short(alloc)?;
+        let mut below = String::new(alloc);
+        self.push_below(alloc, &mut below)?;
+        format!(in alloc; "{heading}{below}")
     }
 
     /// Adds the lines that are below the short form.

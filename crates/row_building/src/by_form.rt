@@ -1,7 +1,7 @@
-//! Rows of the forms of a fault.
+//! Rows of the forms of a fault, or of a warning.
 
-use report_forms::{Entry, Excerpt, Place, Position, Related};
-use row_files::{Case, Problem, Tally, Way, compare, number, text_of};
+use report_forms::{Entry, Excerpt, Place, Position, Related, Severity};
+use row_files::{Case, Problem, Tally, Way, compare, number, says, text_of};
 use std::alloc::{AllocError, Global};
 
 /// Judges the fault that the row has, in the form that the call names.
@@ -13,10 +13,13 @@ pub(crate) fn by_form(alloc: Global, case: Case<'_>, tally: &mut Tally) -> Resul
     compare(case, Way::whole(case.call, &[], 500), tally)
 }
 
-/// The fault that the row has.
+/// The fault that the row has, or the warning.
 fn entry_of(alloc: Global, case: Case<'_>) -> Result<Entry, Problem> {
     let path = input(case, 0)?;
     let mut entry = Entry::at(alloc, &[], path, None)?;
+    if says(case.row, "severity", "warning")? {
+        entry.severity = Severity::Warning;
+    }
     entry.rule = "Rule";
     entry.message = String::from_str(alloc, input(case, 1)?)?;
     add_place(alloc, case, &mut entry)?;

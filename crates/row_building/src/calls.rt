@@ -28,7 +28,7 @@ impl Calls for Building {
             "schema" | "orphans" | "extended" => Some(&["schema", "first", "adopt", "ignore"]),
             "coordinate" => Some(&["schema", "form", "input"]),
             "text" | "short" | "json" | "github" => {
-                Some(&["at", "column", "length", "offset", "input"])
+                Some(&["severity", "at", "column", "length", "offset", "input"])
             }
             "positions" | "shown" => Some(&["input"]),
             _ => None,

@@ -53,9 +53,9 @@ def place_object(place: Place) -> Dict[str, Any]:
 
 
 def json_line(it: Finding) -> str:
-    """A finding as an object, with the members of `graphql-report --format json` and its severity."""
+    """A finding as an object, with the members of `graphql-report --format json`."""
     related = [{"path": noted.place.path, "line": noted.place.line, "column": noted.place.column, "words": noted.words} for noted in it.related]
-    told = {"rule": it.rule, "message": it.message, "related": related, "hint": it.hint, "fields": dict(it.fields), "severity": it.severity}
+    told = {"severity": it.severity, "rule": it.rule, "message": it.message, "related": related, "hint": it.hint, "fields": dict(it.fields)}
     return json.dumps({**place_object(it.place), **told}, ensure_ascii=False, separators=(",", ":"))
 
 

@@ -10,5 +10,5 @@ returns c =
     let paths = string_bytes c.in_ok-paths.paths in
     made_as c.format.result (codes "{\"schema\":[" ++ (paths ++ (codes "],\"accepted\":" ++ (accepted ++ (codes ",\"faults\":" ++ (decimal c.args.faults ++ codes "}\n"))))))
     (schema_text (map string_bytes c.args.paths.now) c.args.faults)
-    (schema_made paths accepted c.args.faults ∙ ap (λ p. codes "{\"schema\":[" ++ p ++ codes "]" ++ judged_text c.args.faults) c.in_ok-paths.ensures)
+    (schema_made paths accepted c.args.faults ∙ ap (λ p. codes "{\"schema\":[" ++ p ++ codes "]" ++ judged_text c.args.faults ++ codes "}\n") c.in_ok-paths.ensures)
     c.format.ensures.ok

@@ -7,4 +7,4 @@ use Rattle.report_forms.proofs.coloured_form.push_coloured.Goals as goal
 pub returns : goal.returns
 returns c =
     let end = YieldsList-end (YieldsList-from_lines c.args.text.now (search rules)) c.loop-line.yielded _ c.loop-line.yielded_by _ _ c.in-None.is c.next.ensures.steps in
-    c.loop-line.invariant ∙ ap (λ ls. string_bytes c.args.out.now ++ flat_map coloured_line ls) end.0
+    c.loop-line.invariant ∙ ap (λ ls. string_bytes c.args.out.now ++ flat_map (coloured_line c.args.severity) ls) end.0

@@ -18,6 +18,6 @@ returns c =
     let parts = four (code (codes "1")) (string_bytes c.in_ok-heading-2.heading) (code (codes "0")) (10 ∷ []) in
     let first : string_bytes c.in_ok-out.out ≡ code (codes "1") ++ shown_text (heading e) ++ code (codes "0") ++ 10 ∷ [] =
     c.in_ok-out.ensures.ok ∙ parts ∙ ap (λ h. code (codes "1") ++ h ++ code (codes "0") ++ 10 ∷ []) shown in
-    let added : string_bytes c.push_coloured.new.out ≡ string_bytes c.in_ok-out.out ++ flat_map coloured_line (lines below) = search rules in
+    let added : string_bytes c.push_coloured.new.out ≡ string_bytes c.in_ok-out.out ++ flat_map (coloured_line e.severity) (lines below) = search rules in
     let clean : HasOnlyLineFeeds below = search rules in
-    record { below = below; clean = clean; lines_are = added ∙ ap (λ l. l ++ flat_map coloured_line (lines below)) first }
+    record { below = below; clean = clean; lines_are = added ∙ ap (λ l. l ++ flat_map (coloured_line e.severity) (lines below)) first }
