@@ -49,23 +49,64 @@ WHOLE = [
 ]
 
 # What stands before the C library. Counts are kept in a file that is mapped, so that they are there however the program ends:
-# how many requests there were, how many of them were refused, and of how many bytes the first of these was.
+# how many requests there were, how many of them were refused, and of how many bytes the first of these was. With REFUSED_LIST, a file
+# of two numbers for each run (which request, and whether each after it), the program begins once, and each run is a fork of it before
+# its `main`: REFUSED_TOLD gets the status, the counts, and what was written, for each.
 SHIM = r"""
+#define _GNU_SOURCE
 #include <errno.h>
 #include <fcntl.h>
 #include <stdlib.h>
 #include <sys/mman.h>
+#include <sys/stat.h>
+#include <sys/wait.h>
 #include <unistd.h>
 
 void *__libc_malloc(size_t), *__libc_calloc(size_t, size_t), *__libc_realloc(void *, size_t), *__libc_memalign(size_t, size_t);
 
 static unsigned long own[3], *counts = own, first, is_each;
 
+static void write_all(int file, const void *from, size_t size) {
+    if (write(file, from, size) != (ssize_t)size) _exit(98);
+}
+
+static void copy_all(int from, int to) {
+    static char room[1 << 16];
+    lseek(from, 0, SEEK_SET);
+    for (ssize_t size; (size = read(from, room, sizeof room)) > 0;) write_all(to, room, size);
+}
+
+static void run_each(int list, int told, unsigned long *kept) {
+    unsigned long run[2];
+    while (read(list, run, sizeof run) == sizeof run) {
+        int out = memfd_create("out", 0), err = memfd_create("err", 0), status;
+        struct stat outs, errs;
+        kept[0] = kept[1] = kept[2] = 0;
+        pid_t child = fork();
+        if (out < 0 || err < 0 || child < 0) _exit(97);
+        if (!child) {
+            dup2(out, 1), dup2(err, 2), close(out), close(err), close(list), close(told);
+            setenv("REFUSED_FIRST", "", 1);
+            if (run[1]) setenv("REFUSED_EACH", "yes", 1);
+            alarm(60);
+            first = run[0], is_each = run[1], counts = kept;
+            return;
+        }
+        waitpid(child, &status, 0);
+        fstat(out, &outs), fstat(err, &errs);
+        unsigned long how[6] = {WIFEXITED(status) ? WEXITSTATUS(status) : 256, kept[0], kept[1], kept[2], outs.st_size, errs.st_size};
+        write_all(told, how, sizeof how), copy_all(out, told), copy_all(err, told), close(out), close(err);
+    }
+    _exit(0);
+}
+
 __attribute__((constructor)) static void begin(void) {
     const char *path = getenv("REFUSED_COUNTS"), *number = getenv("REFUSED_FIRST");
     int file = path ? open(path, O_RDWR) : -1;
     void *kept = file < 0 ? MAP_FAILED : mmap(0, sizeof own, PROT_READ | PROT_WRITE, MAP_SHARED, file, 0);
     if (kept == MAP_FAILED) _exit(99);
+    const char *list = getenv("REFUSED_LIST"), *told = getenv("REFUSED_TOLD");
+    if (list && told) return run_each(open(list, O_RDONLY), open(told, O_WRONLY), kept);
     counts = kept;
     is_each = getenv("REFUSED_EACH") != 0;
     first = number ? strtoul(number, 0, 10) : 0;
@@ -187,6 +228,10 @@ class Runs:
     def refuse(self, number, is_each):
         """What is to be told of a run in which the request of this number is refused, alone or with all after it: a kind and a line."""
         answer, _, refused, size = self.run(number, is_each)
+        return self.told(number, is_each, answer, refused, size)
+
+    def told(self, number, is_each, answer, refused, size):
+        """What is to be told of the answer of such a run."""
         way = "from there on" if is_each else "alone"
         said = f"{self.row.name}: request {number} of {self.requests}, {size} bytes, refused {way}"
         if refused == 0:
@@ -273,15 +318,27 @@ class Calls(Runs):
         """Whether `out of memory` was an answer, and it tells of no difference."""
         return answer == (0, b"as wanted, out of memory told\n", b"")
 
+    def refuse_all(self, numbered):
+        """What is to be told of all these runs, each a fork of one process."""
+        names = {"LD_PRELOAD": self.shim}
+        for name, text in {"COUNTS": bytes(24), "LIST": b"".join(struct.pack("QQ", *one) for one in numbered), "TOLD": b""}.items():
+            names[f"REFUSED_{name}"] = path = os.path.join(self.folder, name)
+            with open(path, "wb") as file:
+                file.write(text)
+        subprocess.run([self.program], cwd=self.folder, env={**os.environ, **names}, check=True)
+        with open(names["REFUSED_TOLD"], "rb") as file:
+            for number, is_each in numbered:
+                status, _, refused, size, out, errors = struct.unpack("6Q", file.read(48))
+                yield self.told(number, is_each, (status, file.read(out), file.read(errors)), refused, size)
 
-def tried_calls(program, shim, folder, sample, pool):
+
+def tried_calls(program, shim, folder, sample):
     """What is to be told of the runs of such a program: a kind and a line each."""
     calls = Calls(program, shim, os.path.join(folder, "calls"))
     calls.begin()
     if not calls.is_right():
         return [("other", f"{calls.row.name}: the answer is {calls.right!r}")]
-    numbered = [(number, is_each) for number in numbers(calls.requests, 50 * sample, 0) for is_each in (False, True)]
-    return pool.map(lambda one: calls.refuse(*one), numbered)
+    return calls.refuse_all([(number, is_each) for number in numbers(calls.requests, 50 * sample, 0) for is_each in (False, True)])
 
 
 def numbers(requests, sample, offset):
@@ -332,7 +389,7 @@ def main():
             file.write(SHIM)
         subprocess.run(["cc", "-O1", "-shared", "-fPIC", "-fno-builtin", "-o", shim, source], check=True)
         if given.library:
-            for kind, line in tried_calls(program, shim, folder, given.sample, pool):
+            for kind, line in tried_calls(program, shim, folder, given.sample):
                 count[kind] += 1
                 if line:
                     print(line, flush=True)
