@@ -50,8 +50,8 @@ WHOLE = [
 
 # What stands before the C library. Counts are kept in a file that is mapped, so that they are there however the program ends:
 # how many requests there were, how many of them were refused, and of how many bytes the first of these was. With REFUSED_LIST, a file
-# of two numbers for each run (which request, and whether each after it), the program begins once, and each run is a fork of it before
-# its `main`: REFUSED_TOLD gets the status, the counts, and what was written, for each.
+# of the numbers of requests in order, one run goes through, and at each of these is forked: there it is refused. REFUSED_TOLD gets, for
+# each, the number, the status, the counts and what was written.
 SHIM = r"""
 #define _GNU_SOURCE
 #include <errno.h>
@@ -76,28 +76,28 @@ static void copy_all(int from, int to) {
     for (ssize_t size; (size = read(from, room, sizeof room)) > 0;) write_all(to, room, size);
 }
 
-static void run_each(int list, int told, unsigned long *kept) {
-    unsigned long run[2];
-    while (read(list, run, sizeof run) == sizeof run) {
-        int out = memfd_create("out", 0), err = memfd_create("err", 0), status;
-        struct stat outs, errs;
-        kept[0] = kept[1] = kept[2] = 0;
-        pid_t child = fork();
-        if (out < 0 || err < 0 || child < 0) _exit(97);
-        if (!child) {
-            dup2(out, 1), dup2(err, 2), close(out), close(err), close(list), close(told);
-            setenv("REFUSED_FIRST", "", 1);
-            if (run[1]) setenv("REFUSED_EACH", "yes", 1);
-            alarm(60);
-            first = run[0], is_each = run[1], counts = kept;
-            return;
-        }
-        waitpid(child, &status, 0);
-        fstat(out, &outs), fstat(err, &errs);
-        unsigned long how[6] = {WIFEXITED(status) ? WEXITSTATUS(status) : 256, kept[0], kept[1], kept[2], outs.st_size, errs.st_size};
-        write_all(told, how, sizeof how), copy_all(out, told), copy_all(err, told), close(out), close(err);
+static int list = -1, told = -1;
+static unsigned long next, *of_run;
+
+/* Forks the run in which this request is refused: 1 in that run. Here it waits for it, and tells how it ended. */
+static int is_run(unsigned long number) {
+    int out = memfd_create("out", 0), err = memfd_create("err", 0), status;
+    struct stat outs, errs;
+    of_run[0] = number, of_run[1] = of_run[2] = 0;
+    pid_t run = fork();
+    if (out < 0 || err < 0 || run < 0) _exit(97);
+    if (!run) {
+        dup2(out, 1), dup2(err, 2), close(out), close(err), close(list), close(told);
+        alarm(60);
+        counts = of_run, first = number, list = -1;
+        return 1;
     }
-    _exit(0);
+    waitpid(run, &status, 0);
+    fstat(out, &outs), fstat(err, &errs);
+    unsigned long how[6] = {number, WIFEXITED(status) ? WEXITSTATUS(status) : 256, of_run[1], of_run[2], outs.st_size, errs.st_size};
+    write_all(told, how, sizeof how), copy_all(out, told), copy_all(err, told), close(out), close(err);
+    if (read(list, &next, sizeof next) != sizeof next) _exit(0);
+    return 0;
 }
 
 __attribute__((constructor)) static void begin(void) {
@@ -105,8 +105,12 @@ __attribute__((constructor)) static void begin(void) {
     int file = path ? open(path, O_RDWR) : -1;
     void *kept = file < 0 ? MAP_FAILED : mmap(0, sizeof own, PROT_READ | PROT_WRITE, MAP_SHARED, file, 0);
     if (kept == MAP_FAILED) _exit(99);
-    const char *list = getenv("REFUSED_LIST"), *told = getenv("REFUSED_TOLD");
-    if (list && told) return run_each(open(list, O_RDONLY), open(told, O_WRONLY), kept);
+    const char *from = getenv("REFUSED_LIST"), *to = getenv("REFUSED_TOLD");
+    if (from && to) {
+        list = open(from, O_RDONLY), told = open(to, O_WRONLY);
+        of_run = mmap(0, sizeof own, PROT_READ | PROT_WRITE, MAP_SHARED | MAP_ANONYMOUS, -1, 0);
+        if (list < 0 || told < 0 || of_run == MAP_FAILED || read(list, &next, sizeof next) != sizeof next) _exit(96);
+    }
     counts = kept;
     is_each = getenv("REFUSED_EACH") != 0;
     first = number ? strtoul(number, 0, 10) : 0;
@@ -115,6 +119,10 @@ __attribute__((constructor)) static void begin(void) {
 static int is_refused(size_t bytes) {
     if (counts == own) return 0;
     unsigned long number = ++counts[0];
+    if (list >= 0 && number == next && gettid() == getpid()) {
+        int before = errno;
+        if (!is_run(number)) return errno = before, 0;
+    }
     if (!first || number < first || (number > first && !is_each)) return 0;
     if (!counts[1]++) counts[2] = bytes;
     errno = ENOMEM;
@@ -318,18 +326,21 @@ class Calls(Runs):
         """Whether `out of memory` was an answer, and it tells of no difference."""
         return answer == (0, b"as wanted, out of memory told\n", b"")
 
-    def refuse_all(self, numbered):
-        """What is to be told of all these runs, each a fork of one process."""
-        names = {"LD_PRELOAD": self.shim}
-        for name, text in {"COUNTS": bytes(24), "LIST": b"".join(struct.pack("QQ", *one) for one in numbered), "TOLD": b""}.items():
+    def refuse_each(self, numbers, is_each):
+        """What is to be told of the runs in which one of these requests is refused, each forked from one run where it is made."""
+        names = {"LD_PRELOAD": self.shim, "REFUSED_FIRST": "0", **({"REFUSED_EACH": "yes"} if is_each else {})}
+        for name, text in {"COUNTS": bytes(24), "LIST": b"".join(struct.pack("Q", one) for one in numbers), "TOLD": b""}.items():
             names[f"REFUSED_{name}"] = path = os.path.join(self.folder, name)
             with open(path, "wb") as file:
                 file.write(text)
-        subprocess.run([self.program], cwd=self.folder, env={**os.environ, **names}, check=True)
+        subprocess.run([self.program], cwd=self.folder, env={**os.environ, **names}, timeout=600, capture_output=True, check=False)
         with open(names["REFUSED_TOLD"], "rb") as file:
-            for number, is_each in numbered:
-                status, _, refused, size, out, errors = struct.unpack("6Q", file.read(48))
-                yield self.told(number, is_each, (status, file.read(out), file.read(errors)), refused, size)
+            for number in numbers:
+                told = struct.unpack("6Q", file.read(48) or bytes(48))
+                if told[0] != number:
+                    yield "other", f"{self.row.name}: request {number} of {self.requests} was not made"
+                    return
+                yield self.told(number, is_each, (told[1], file.read(told[4]), file.read(told[5])), told[2], told[3])
 
 
 def tried_calls(program, shim, folder, sample):
@@ -338,7 +349,8 @@ def tried_calls(program, shim, folder, sample):
     calls.begin()
     if not calls.is_right():
         return [("other", f"{calls.row.name}: the answer is {calls.right!r}")]
-    return calls.refuse_all([(number, is_each) for number in numbers(calls.requests, 50 * sample, 0) for is_each in (False, True)])
+    chosen_ones = numbers(calls.requests, 50 * sample, 0)
+    return [it for is_each in (False, True) for it in calls.refuse_each(chosen_ones, is_each)]
 
 
 def numbers(requests, sample, offset):
