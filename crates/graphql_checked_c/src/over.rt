@@ -5,7 +5,7 @@ ghost use Rattle.checker_calls.specs.declared.refusal.Refusal.TheVariants.{Faile
 ghost use Rattle.checker_calls.specs.Layouts.{prefix_of};
 ghost use Rattle.graphql_checked.specs.CheckedView.{document_value};
 ghost use Rattle.graphql_checked.specs.CheckerValue.{WritesCheckedDocument};
-ghost use Rattle.graphql_checked_c.specs.CallResults.{IsYesOver, IsDocumentText, IsNoPrefix, layout_of, TellsText, TellsSchemaText, TellsRefusal, AnswersOver};
+ghost use Rattle.graphql_checked_c.specs.CallResults.{IsYesOver, IsDocumentText, IsSchemaText, IsNoPrefix, layout_of, TellsText, TellsRefusal, AnswersOver};
 
 use crate::answer::{ACCEPTED, Answer, MEMORY, NOT_UTF8, bare};
 use crate::handle::Kept;
@@ -108,7 +108,7 @@ fn text_of_document(
 
 /// The text of the schema under the layout.
 pub(crate) fn schema_text(alloc: Global, schema: &CheckedSchema, layout: Layout<'_>) -> Answer
-    ensures { TellsSchemaText (prefix_of layout.entry) schema.now result.status result.bytes.items }
+    ensures { ((result.status ≡ 0) × IsSchemaText (prefix_of layout.entry) schema.now result.bytes.items) ⊎ ((result.status ≡ 4) × (result.bytes.items ≡ [])) }
 {
     text_answer(alloc, schema.written(layout))
 }
