@@ -49,23 +49,68 @@ WHOLE = [
 ]
 
 # What stands before the C library. Counts are kept in a file that is mapped, so that they are there however the program ends:
-# how many requests there were, how many of them were refused, and of how many bytes the first of these was.
+# how many requests there were, how many of them were refused, and of how many bytes the first of these was. With REFUSED_LIST, a file
+# of the numbers of requests in order, one run goes through, and at each of these is forked: there it is refused. REFUSED_TOLD gets, for
+# each, the number, the status, the counts and what was written.
 SHIM = r"""
+#define _GNU_SOURCE
 #include <errno.h>
 #include <fcntl.h>
 #include <stdlib.h>
 #include <sys/mman.h>
+#include <sys/stat.h>
+#include <sys/wait.h>
 #include <unistd.h>
 
 void *__libc_malloc(size_t), *__libc_calloc(size_t, size_t), *__libc_realloc(void *, size_t), *__libc_memalign(size_t, size_t);
 
 static unsigned long own[3], *counts = own, first, is_each;
 
+static void write_all(int file, const void *from, size_t size) {
+    if (write(file, from, size) != (ssize_t)size) _exit(98);
+}
+
+static void copy_all(int from, int to) {
+    static char room[1 << 16];
+    lseek(from, 0, SEEK_SET);
+    for (ssize_t size; (size = read(from, room, sizeof room)) > 0;) write_all(to, room, size);
+}
+
+static int list = -1, told = -1;
+static unsigned long next, *of_run;
+
+/* Forks the run in which this request is refused: 1 in that run. Here it waits for it, and tells how it ended. */
+static int is_run(unsigned long number) {
+    int out = memfd_create("out", 0), err = memfd_create("err", 0), status;
+    struct stat outs, errs;
+    of_run[0] = number, of_run[1] = of_run[2] = 0;
+    pid_t run = fork();
+    if (out < 0 || err < 0 || run < 0) _exit(97);
+    if (!run) {
+        dup2(out, 1), dup2(err, 2), close(out), close(err), close(list), close(told);
+        alarm(60);
+        counts = of_run, first = number, list = -1;
+        return 1;
+    }
+    waitpid(run, &status, 0);
+    fstat(out, &outs), fstat(err, &errs);
+    unsigned long how[6] = {number, WIFEXITED(status) ? WEXITSTATUS(status) : 256, of_run[1], of_run[2], outs.st_size, errs.st_size};
+    write_all(told, how, sizeof how), copy_all(out, told), copy_all(err, told), close(out), close(err);
+    if (read(list, &next, sizeof next) != sizeof next) _exit(0);
+    return 0;
+}
+
 __attribute__((constructor)) static void begin(void) {
     const char *path = getenv("REFUSED_COUNTS"), *number = getenv("REFUSED_FIRST");
     int file = path ? open(path, O_RDWR) : -1;
     void *kept = file < 0 ? MAP_FAILED : mmap(0, sizeof own, PROT_READ | PROT_WRITE, MAP_SHARED, file, 0);
     if (kept == MAP_FAILED) _exit(99);
+    const char *from = getenv("REFUSED_LIST"), *to = getenv("REFUSED_TOLD");
+    if (from && to) {
+        list = open(from, O_RDONLY), told = open(to, O_WRONLY);
+        of_run = mmap(0, sizeof own, PROT_READ | PROT_WRITE, MAP_SHARED | MAP_ANONYMOUS, -1, 0);
+        if (list < 0 || told < 0 || of_run == MAP_FAILED || read(list, &next, sizeof next) != sizeof next) _exit(96);
+    }
     counts = kept;
     is_each = getenv("REFUSED_EACH") != 0;
     first = number ? strtoul(number, 0, 10) : 0;
@@ -74,6 +119,10 @@ __attribute__((constructor)) static void begin(void) {
 static int is_refused(size_t bytes) {
     if (counts == own) return 0;
     unsigned long number = ++counts[0];
+    if (list >= 0 && number == next && gettid() == getpid()) {
+        int before = errno;
+        if (!is_run(number)) return errno = before, 0;
+    }
     if (!first || number < first || (number > first && !is_each)) return 0;
     if (!counts[1]++) counts[2] = bytes;
     errno = ENOMEM;
@@ -187,6 +236,10 @@ class Runs:
     def refuse(self, number, is_each):
         """What is to be told of a run in which the request of this number is refused, alone or with all after it: a kind and a line."""
         answer, _, refused, size = self.run(number, is_each)
+        return self.told(number, is_each, answer, refused, size)
+
+    def told(self, number, is_each, answer, refused, size):
+        """What is to be told of the answer of such a run."""
         way = "from there on" if is_each else "alone"
         said = f"{self.row.name}: request {number} of {self.requests}, {size} bytes, refused {way}"
         if refused == 0:
@@ -273,15 +326,31 @@ class Calls(Runs):
         """Whether `out of memory` was an answer, and it tells of no difference."""
         return answer == (0, b"as wanted, out of memory told\n", b"")
 
+    def refuse_each(self, numbers, is_each):
+        """What is to be told of the runs in which one of these requests is refused, each forked from one run where it is made."""
+        names = {"LD_PRELOAD": self.shim, "REFUSED_FIRST": "0", **({"REFUSED_EACH": "yes"} if is_each else {})}
+        for name, text in {"COUNTS": bytes(24), "LIST": b"".join(struct.pack("Q", one) for one in numbers), "TOLD": b""}.items():
+            names[f"REFUSED_{name}"] = path = os.path.join(self.folder, name)
+            with open(path, "wb") as file:
+                file.write(text)
+        subprocess.run([self.program], cwd=self.folder, env={**os.environ, **names}, timeout=600, capture_output=True, check=False)
+        with open(names["REFUSED_TOLD"], "rb") as file:
+            for number in numbers:
+                told = struct.unpack("6Q", file.read(48) or bytes(48))
+                if told[0] != number:
+                    yield "other", f"{self.row.name}: request {number} of {self.requests} was not made"
+                    return
+                yield self.told(number, is_each, (told[1], file.read(told[4]), file.read(told[5])), told[2], told[3])
 
-def tried_calls(program, shim, folder, sample, pool):
+
+def tried_calls(program, shim, folder, sample):
     """What is to be told of the runs of such a program: a kind and a line each."""
     calls = Calls(program, shim, os.path.join(folder, "calls"))
     calls.begin()
     if not calls.is_right():
         return [("other", f"{calls.row.name}: the answer is {calls.right!r}")]
-    numbered = [(number, is_each) for number in numbers(calls.requests, 50 * sample, 0) for is_each in (False, True)]
-    return pool.map(lambda one: calls.refuse(*one), numbered)
+    chosen_ones = numbers(calls.requests, 50 * sample, 0)
+    return [it for is_each in (False, True) for it in calls.refuse_each(chosen_ones, is_each)]
 
 
 def numbers(requests, sample, offset):
@@ -332,7 +401,7 @@ def main():
             file.write(SHIM)
         subprocess.run(["cc", "-O1", "-shared", "-fPIC", "-fno-builtin", "-o", shim, source], check=True)
         if given.library:
-            for kind, line in tried_calls(program, shim, folder, given.sample, pool):
+            for kind, line in tried_calls(program, shim, folder, given.sample):
                 count[kind] += 1
                 if line:
                     print(line, flush=True)

@@ -1,4 +1,5 @@
 pub mod Handles
 pub mod Answers
+pub mod Told
 pub mod JsonLines
 pub mod Named

@@ -132,6 +132,10 @@ abbrev pub TellsText : {Z : Type 0} → Result (String Z) AllocError → ℕ →
 TellsText (Ok text) status bytes = (status ≡ 0) × (bytes ≡ string_bytes text)
 TellsText (Err fault) status bytes = (status ≡ 4) × (bytes ≡ [])
 
+-- the text of a schema, or memory ran out
+abbrev pub TellsSchemaText : Layout → CheckedSchemaParts → ℕ → List ℕ → Type 0
+TellsSchemaText layout schema status bytes = ((status ≡ 0) × IsSchemaText layout schema bytes) ⊎ ((status ≡ 4) × (bytes ≡ []))
+
 -- the status, and what is held: the schema with its texts, or nothing if memory ran out
 abbrev pub KeepsOrNot : Kept → Option Kept → ℕ → Type 0
 KeepsOrNot kept value status = ((status ≡ 0) × (value ≡ Some kept)) ⊎ ((status ≡ 4) × (value ≡ None))
@@ -155,3 +159,17 @@ pub record AnswersOver (json : Bool) (told : List ℕ → Type 0) (kept : Kept) 
   pub prefixed : status ≢ 8
   pub certain : IsCertainOver kept.schema path document → IsDoneOrMemory status
   pub untold : status ≢ 0 → status ≢ 1 → bytes ≡ []
+
+-- the document is accepted, and no bytes go with that
+abbrev pub IsYesAlone : SourceText → Kept → List ℕ → Type 0
+IsYesAlone document kept bytes = IsYesOver kept.schema document × (bytes ≡ [])
+
+-- something is kept, and `says` holds of it
+abbrev pub IsOfKept : Option Kept → (Kept → Type 0) → Type 0
+IsOfKept value says = (kept : Kept) × ((value ≡ Some kept) × says kept)
+
+-- the answer for a document over what is kept
+pub record AnswersKept (json : Bool) (told : Kept → List ℕ → Type 0) (value : Option Kept) (path : List ℕ) (document : SourceText) (status : ℕ) (bytes : List ℕ) : Type 0 where
+  pub kept : Kept
+  pub is : value ≡ Some kept
+  pub answers : AnswersOver json (told kept) kept path document status bytes

@@ -3,14 +3,14 @@
 ghost use Rattle.std.specs.Prelude.{◌≢◌, length, is_some, IfOk};
 ghost use Rattle.graphql_faults.specs.DetailsView.{diagnostics_of};
 ghost use Rattle.checker_calls.specs.declared.refusal.Refusal.TheVariants.{Failed};
-ghost use Rattle.graphql_checked_c.specs.Json.{AreLines, IsJson};
+ghost use Rattle.graphql_checked_c.specs.Json.{AreLines, AreEntries, IsJson};
 ghost use Rattle.graphql_checked_c.specs.CallResults.{IsTold, TellsRefusal};
 
 use crate::answer::{Answer, MEMORY, REFUSED, bare};
 use crate::held::{HeldText, sources_of};
 use checker_calls::refused;
 use graphql_checked::{DiagnosticList, Refusal, Schema};
-use graphql_report::{Entry, Report};
+use graphql_report::{Entry, Report, Source};
 use std::alloc::{AllocError, Global};
 
 /// The answer for a refusal: of the document at that path, if a schema is given that it is over; else of the texts of a
@@ -72,17 +72,24 @@ fn json_of(
     ensures { IfOk result (λ bytes. IsJson (is_some over.entry) texts.now path.now document.now (diagnostics_of faults.now) bytes.items) }
 {
     let sources = sources_of(alloc, texts)?;
+    let report = report_of(alloc, faults, &sources, over, path, document)?;
+    json_lines(alloc, report.entries())
+}
+
+/// The report of the faults: of a document over the schema that is given, or else of the schema's texts.
+fn report_of(
+    alloc: Global,
+    faults: &DiagnosticList,
+    sources: &[Source<'_>],
+    over: Option<&Schema>,
+    path: &str,
+    document: &str,
+) -> Result<Report, AllocError>
+    ensures { IfOk result (AreEntries (is_some over.entry) sources.now path.now document.now (diagnostics_of faults.now)) }
+{
     match over {
-        None => {
-            let report = Report::new(alloc, faults, &sources, None, path)?;
-            let bytes = json_lines(alloc, report.entries())?;
-            Ok(bytes)
-        }
-        Some(over) => {
-            let report = Report::of_document(alloc, faults, &sources, over, path, document)?;
-            let bytes = json_lines(alloc, report.entries())?;
-            Ok(bytes)
-        }
+        None => Report::new(alloc, faults, sources, None, path),
+        Some(over) => Report::of_document(alloc, faults, sources, over, path, document),
     }
 }
 

@@ -1,14 +1,17 @@
 //! A schema that C holds: opened of several texts, asked, and closed.
 
 ghost use Rattle.std.specs.Prelude.{◌≡◌, ◌≢◌, None, IfSome};
+ghost use Rattle.checker_calls.specs.Layouts.{prefix_of};
+ghost use Rattle.ffi_memory.specs.Room.{IsPut};
 ghost use Rattle.graphql_checked_c.specs.HeldTexts.{OneHasNotUtf8, AreNotNamed};
-ghost use Rattle.graphql_checked_c.specs.CallResults.{HoldsSchemaOf, IsToldOfTexts, AreCertainTexts, IsYesOver, IsToldOver, IsCertainOver, OneIsNotUtf8, IsSchemaText, IsDocumentText, IsNoPrefix, layout_of, KeepsOrNot, IsStatus, IsDoneOrMemory, IsDoneOrMemoryOrPrefix, HasStack, IsToldIn, IsUntold};
+ghost use Rattle.graphql_checked_c.specs.CallResults.{HoldsSchemaOf, IsToldOfTexts, AreCertainTexts, IsYesOver, IsToldOver, IsCertainOver, OneIsNotUtf8, IsSchemaText, IsDocumentText, IsNoPrefix, layout_of, KeepsOrNot, IsYesAlone, TellsSchemaText, IsOfKept, AnswersKept, IsStatus, IsDoneOrMemory, IsDoneOrMemoryOrPrefix, HasStack, IsToldIn, IsUntold};
 
-use crate::answer::{ACCEPTED, MEMORY, PREFIX, STACK};
+use crate::answer::{ACCEPTED, Answer, MEMORY, PREFIX, STACK};
 use crate::handle::{Handle, Kept, keep, take};
 use crate::opening::kept_of_texts;
 use crate::over::{checked, document_text, layout, schema_text};
 use ffi_memory::{put, suffices};
+use graphql_checked::Layout;
 use std::alloc::Global;
 
 /// Opens a handle on the schema of these texts, each of which ends where `ends` says, and has the name that ends where
@@ -19,7 +22,7 @@ use std::alloc::Global;
 /// name is not UTF-8; 4 if memory ran out; 5 if the stack is too small; 7 if the ends are not those of so many texts and
 /// names.
 #[unsafe(no_mangle)]
-#[tactic(auto, using(crate::proofs::Answers::put_nothing, crate::proofs::Answers::put_told, crate::proofs::Answers::some_is))]
+#[tactic(auto, using(crate::proofs::Told::texts_told, crate::proofs::Told::texts_untold))]
 pub extern "C" fn graphql_proved_schema_open(
     alloc: Global,
     names: &'static [u8],
@@ -50,10 +53,7 @@ pub extern "C" fn graphql_proved_schema_open(
     }
     match kept_of_texts(alloc, names, name_ends, texts, ends, nesting, json) {
         Ok(held) => kept(alloc, handle, held),
-        Err(answer) => {
-            *needed = put(room, &answer.bytes);
-            answer.status
-        }
+        Err(answer) => told(room, needed, answer),
     }
 }
 
@@ -71,12 +71,20 @@ fn kept(alloc: Global, handle: &mut Handle, held: Kept) -> u32
     }
 }
 
+/// Puts the bytes of an answer into the room, if they fit there, and tells its status.
+fn told(room: &mut [u8], needed: &mut usize, answer: Answer) -> u32
+    ensures bytes { IsPut answer.bytes.items room.old room.new needed.new }
+    ensures status { result ≡ answer.status }
+{
+    *needed = put(room, &answer.bytes);
+    answer.status
+}
+
 /// Checks a document at that path over the schema of the handle, which stays as it is.
 ///
 /// The status is 0 if the document is accepted; 1 if it is refused, and then the report is told as
 /// `graphql_proved_schema_open` does; 3 if it or its path is not UTF-8; 4 if memory ran out.
 #[unsafe(no_mangle)]
-#[tactic(auto, using(crate::proofs::Answers::held_yes, crate::proofs::Answers::report_told, crate::proofs::Answers::held_complete, crate::proofs::Answers::check_untold))]
 pub extern "C" fn graphql_proved_schema_check(
     alloc: Global,
     handle: &mut Handle,
@@ -95,11 +103,26 @@ pub extern "C" fn graphql_proved_schema_check(
     ensures complete { IfSome handle.old.value (λ k. IsCertainOver k.schema path.now document.now → IsDoneOrMemory result) }
     ensures untold { result ≢ 1 → IsUntold room.old room.new needed.new }
 {
+    let answer = checked_over(alloc, handle, json, path, document);
+    told(room, needed, answer)
+}
+
+/// The answer for a document over what is held, which stays as it is.
+fn checked_over(
+    alloc: Global,
+    handle: &mut Handle,
+    json: bool,
+    path: &[u8],
+    document: &[u8],
+) -> Answer
+    requires { handle.old.value ≢ None }
+    ensures kept { handle.new.value ≡ handle.old.value }
+    ensures answer { AnswersKept json (IsYesAlone document.now) handle.old.value path.now document.now result.status result.bytes.items }
+{
     let held = take(alloc, handle);
     let answer = checked(alloc, &held, json, path, document);
     keep(handle, held);
-    *needed = put(room, &answer.bytes);
-    answer.status
+    answer
 }
 
 /// Writes the text of the schema of the handle: on one line, or in lines that begin with the prefix once for each level.
@@ -107,7 +130,6 @@ pub extern "C" fn graphql_proved_schema_check(
 /// The status is 0 if the text is told as `graphql_proved_schema_open` tells a report; 4 if memory ran out; 8 if the prefix
 /// is not of spaces and tabs.
 #[unsafe(no_mangle)]
-#[tactic(auto, using(crate::proofs::Answers::schema_told, crate::proofs::Answers::schema_untold, crate::proofs::Answers::schema_status))]
 pub extern "C" fn graphql_proved_schema_text(
     alloc: Global,
     handle: &mut Handle,
@@ -127,11 +149,20 @@ pub extern "C" fn graphql_proved_schema_text(
     let Some(layout) = layout(lines, prefix) else {
         return PREFIX;
     };
+    let answer = schema_over(alloc, handle, layout);
+    told(room, needed, answer)
+}
+
+/// The answer with the text of the schema that is held, which stays as it is.
+fn schema_over(alloc: Global, handle: &mut Handle, layout: Layout<'_>) -> Answer
+    requires { handle.old.value ≢ None }
+    ensures kept { handle.new.value ≡ handle.old.value }
+    ensures answer { IsOfKept handle.old.value (λ k. TellsSchemaText (prefix_of layout.entry) k.schema result.status result.bytes.items) }
+{
     let held = take(alloc, handle);
     let answer = schema_text(alloc, &held.schema, layout);
     keep(handle, held);
-    *needed = put(room, &answer.bytes);
-    answer.status
+    answer
 }
 
 /// Checks a document over the schema of the handle, and writes its text as `graphql_proved_schema_text` does the schema's.
@@ -139,7 +170,7 @@ pub extern "C" fn graphql_proved_schema_text(
 /// The status is 0 if the text is told; 1, 3 and 4 as for `graphql_proved_schema_check`; 8 if the prefix is not of spaces
 /// and tabs.
 #[unsafe(no_mangle)]
-#[tactic(auto, using(crate::proofs::Answers::put_nothing, crate::proofs::Answers::document_told, crate::proofs::Answers::report_told, crate::proofs::Answers::held_prefixed, crate::proofs::Answers::held_no_prefix))]
+#[tactic(auto, using(crate::proofs::Told::held_no_prefix))]
 pub extern "C" fn graphql_proved_document_text(
     alloc: Global,
     handle: &mut Handle,
@@ -165,11 +196,27 @@ pub extern "C" fn graphql_proved_document_text(
     let Some(layout) = layout(lines, prefix) else {
         return PREFIX;
     };
+    let answer = document_over(alloc, handle, json, path, document, layout);
+    told(room, needed, answer)
+}
+
+/// The answer with the text of a document over what is held, which stays as it is.
+fn document_over(
+    alloc: Global,
+    handle: &mut Handle,
+    json: bool,
+    path: &[u8],
+    document: &[u8],
+    layout: Layout<'_>,
+) -> Answer
+    requires { handle.old.value ≢ None }
+    ensures kept { handle.new.value ≡ handle.old.value }
+    ensures answer { AnswersKept json (λ k. IsDocumentText (prefix_of layout.entry) k.schema document.now) handle.old.value path.now document.now result.status result.bytes.items }
+{
     let held = take(alloc, handle);
     let answer = document_text(alloc, &held, json, path, document, layout);
     keep(handle, held);
-    *needed = put(room, &answer.bytes);
-    answer.status
+    answer
 }
 
 /// Closes the handle: its schema is dropped, and it is empty.

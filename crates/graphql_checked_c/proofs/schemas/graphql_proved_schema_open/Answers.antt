@@ -1,4 +1,4 @@
-use Rattle.graphql_checked_c.proofs.Answers.{opened_holds}
+use Rattle.graphql_checked_c.proofs.Told.{opened_holds}
 use Rattle.graphql_checked_c.proofs.schemas.graphql_proved_schema_open.Goals as goal
 
 pub returns-in-Ok-clause-opened : goal.returns-in-Ok-clause-opened
