@@ -11,8 +11,8 @@ use crate::showing::shown;
 use std::alloc::{AllocError, Global};
 
 impl Entry {
-    /// The lines of the text form for a terminal that shows colours: the first is bold, marks are red, or yellow under a warning, a place that belongs to the
-    /// fault is cyan and a hint green. Each line ends in the terminal's own colour.
+    /// The lines of the text form for a terminal that shows colours: the first is bold, marks are red, or yellow under a warning, a
+    /// place that belongs to the fault is cyan and a hint green. Each line ends in the terminal's own colour.
     pub fn coloured(&self, alloc: Global) -> Result<String, AllocError>
         ensures { IfOk result (λ text. IsColoured self.now (string_bytes text)) }
     {

@@ -2,9 +2,9 @@
 //! others is shown.
 //!
 //! For the layer above: the position of an offset, and back, is exact (`specs/Positions.antt`), and the text of a line is what is
-//! between two line terminators (`specs/LineTexts.antt`). `Entry` has what is told, and each form is what `specs/Forms.antt` says. Of
-//! texts of others no control character goes into the forms that are written to terminals and logs (`specs/Shown.antt`); the form for
-//! programs is one line of JSON.
+//! between two line terminators (`specs/LineTexts.antt`). `Entry` has what is told, and each form is what `specs/Forms.antt` says, the
+//! line of JSON what `specs/Objects.antt` says. Of texts of others no control character goes into the forms that are written to
+//! terminals and logs (`specs/Shown.antt`).
 //!
 //! Begin with `entry.rt`; a form has a file of its own, and `lines.rt` has positions.
 #![tactic(auto)]
