@@ -3,7 +3,7 @@
 
 --check prints what is wrong, a line each, and its status is then 1: README.md has more than 150 lines or 900 words, or all pages
 (*.md at the top and in docs/) have more than 22,000 words; a page, a page of a crate (crates/**/*.md), a list of docs/ (*.txt), or a
-comment of a crate's src/ or specs/ or of a script has a word that the last table of CONTRIBUTING.md refuses; a relative link of a
+comment of a crate's src/, specs/ or proofs/ or of a script has a word that the last table of CONTRIBUTING.md refuses; a relative link of a
 page leads to no file; a name that reads as a crate of the repository is not in crates.txt; one in backticks that reads as a file
 (`name.rt`, `Name.antt`, `name.rows`, `name.edit`, `name.py`) is the name of no file; docs/MAP.md says nothing of a crate of
 crates.txt; a line of a block after `<!-- from PATH -->` is not in that file, after the lines before it; a public clause is longer
@@ -193,12 +193,12 @@ def script_comments(path):
 
 
 def badly_commented(refused):
-    """The words that are refused: in pages of crates, in lists that pages are made from, in comments of sources, definitions and scripts."""
+    """The words that are refused: in pages of crates, in lists that pages are made from, in comments of sources, definitions, proofs and scripts."""
     for path in sources.paths("crates/*/*.md") + sources.paths("crates/*/*/*.md") + sources.paths("docs/*.txt"):
         yield from badly_worded(path, sources.read(path), refused)
     for path in sources.paths("crates/*/src/*.rt"):
         yield from badly_worded(path, "\n".join(comments(sources.read(path), "//")), refused)
-    for path in sources.paths("crates/*/specs/*.antt"):
+    for path in sources.paths("crates/*/specs/*.antt") + sources.paths("crates/*/proofs/**/*.antt"):
         yield from badly_worded(path, "\n".join(comments(sources.read(path), "--")), refused)
     for path in [".ci/run", *sources.paths("scripts/*"), *sources.paths("scripts/*/*")]:
         if os.path.isfile(os.path.join(TOP, path)) and not path.endswith((".go", ".js")) and "__pycache__" not in path:

@@ -71,8 +71,8 @@ def all_below(name, needs):
 
 
 def paths(pattern):
-    """The paths from the top that fit the pattern, in order."""
-    return sorted(os.path.relpath(path, TOP) for path in glob.glob(os.path.join(TOP, pattern)))
+    """The paths from the top that fit the pattern, in order; `**` is any folders, or none."""
+    return sorted(os.path.relpath(path, TOP) for path in glob.glob(os.path.join(TOP, pattern), recursive=True))
 
 
 # ---- definitions of specs/

@@ -1,4 +1,4 @@
--- Texts are accepted exactly where the book says yes.
+-- Texts are accepted exactly when the book says yes.
 use Rattle.std.proofs.Common.{◌≡◌, ℕ, List, sym, subst}
 use Rattle.schema_built_in.specs.Table.{built_in_definitions}
 use Rattle.rule_definitions.specs.Judged.{judged}
@@ -75,7 +75,7 @@ module _ (terms : Terms) (trees : List Tree) (rules : SchemaRules (judged (schem
     within = o.within;
   }
 
-  -- the schema at hand is filtered
+  -- the schema that documents are checked against is the filtered one
   the_filtered : schema_at_hand terms trees ≡ schema_for_documents terms trees
   the_filtered = filtered terms.first_extension (all_definitions trees)
 

@@ -1,4 +1,4 @@
--- None has the name of one before it exactly where no two have one name; and so of what is given with the numbers of extensions, and without.
+-- No element has the name of an earlier one exactly when no two have the same name: with the numbers of extensions, and without.
 use Rattle.std.proofs.Common.{◌≡◌, ◌↔◌, ◌<◌, ℕ, zero, suc, Bool, true, false, List, [], ◌∷◌, ◌++◌, map, filter, flat_map, length, slice_get, refl, sym, ap, subst, ◌∙◌, Option, None, Some, option_map, option_to_list, Contains, if◌then◌else◌, arith}
 use Rattle.std.specs.Option.{option_map_or}
 use Rattle.std.proofs.lemmas.Option.{same_Some}
@@ -22,7 +22,7 @@ use Rattle.book_validity.specs.Words.{AreUnique}
 use Rattle.book_validity.specs.Folding.{schema_parts, parts_of}
 use Rattle.book_validity.proofs.Naming.{same_index, not_below}
 
--- ---- by places, and by what stands before
+-- ---- by index, and by what comes before
 
 module _ {X : Type 0} where
   stands_more : (xs ys : List X) (i : ℕ) (x : X) → slice_get xs i ≡ Some x → slice_get (xs ++ ys) i ≡ Some x
@@ -39,7 +39,7 @@ module _ {X : Type 0} where
   stands_after (z ∷ xs) zero y e = ([], (xs, ap (λ w. w ∷ xs) (same_Some z y e)))
   stands_after (z ∷ xs) (suc j) y e = let (before, (after, is)) = stands_after xs j y e in (z ∷ before, (after, ap (λ l. z ∷ l) is))
 
-  -- and so it does after each that stands earlier
+  -- and each earlier one is among those before it
   stands_after_it : (xs : List X) (i j : ℕ) (x y : X) → slice_get xs i ≡ Some x → slice_get xs j ≡ Some y → i < j → (before : List X) × (StandsAfter xs before y × Contains before x)
   stands_after_it [] i j x y e f less = cc
   stands_after_it (z ∷ xs) i zero x y e f less = absurd (omega (arith, less))
@@ -138,7 +138,7 @@ module _ (built_in : Definitions) (first : ℕ) (texts : Definitions) where
       by true = schema_extensions_alone (numbered first whole) ∙ ap schema_extensions (definitions_numbered first whole)
       by false = refl
 
-  -- ---- so names differ with the numbers of extensions exactly where they do without
+  -- ---- so names differ with the numbers of extensions exactly when they do without
 
   pub components_apart : {A : Type 0} (t : TypeDefinition Place) (of : TypeParts Place → List A) (name : A → List ℕ)
       → NoneRepeated (λ g. name g.it) (components of (numbered first whole) t) ↔ AreUnique name (flat_map of (parts_of built_in texts t))

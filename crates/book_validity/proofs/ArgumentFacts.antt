@@ -1,4 +1,4 @@
--- Arguments are valid exactly where no rule on them is broken.
+-- Arguments are valid exactly when no rule on them is broken.
 use Rattle.std.proofs.Common.{◌⊎◌, ◌↔◌, true, false, refl, sym, ◌∙◌, inl, inr, is_some, true≢false}
 use Rattle.tree_literals.specs.TypeTree.{TypeTree, NamedTree, NonNullNamedTree, ListTree, NonNullListTree, unplaced_type}
 use Rattle.tree_literals.specs.TypeQueries.{has_mark, nullable_type, AreTypesCompatible}

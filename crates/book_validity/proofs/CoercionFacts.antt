@@ -1,4 +1,4 @@
--- A value is of correct type exactly where the type accepts it, as `Accepts` says by cases on the value.
+-- A value is of correct type exactly when the type accepts it, as `Accepts` says by cases on the value.
 use Rattle.std.proofs.Common.{◌≡◌, ◌↔◌, ℕ, List, [], ◌∷◌, codes, Contains, refl, sym, subst, inl, inr}
 use Rattle.std.proofs.lemmas.List.Elements.{Contains-append_right}
 use Rattle.tree_literals.specs.TypeTree.{TypeTree}

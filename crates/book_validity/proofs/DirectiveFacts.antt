@@ -1,4 +1,4 @@
--- The directives at a place are valid exactly where no rule on them is broken.
+-- The directives at a place are valid exactly when no rule on them is broken.
 use Rattle.std.proofs.Common.{◌≡◌, ℕ, List, [], ◌∷◌, refl, sym, ap, subst, ◌∙◌, Option, Some, Contains, slice_get, get_or, inl, inr, ◌<◌, arith}
 use Rattle.std.proofs.lemmas.Option.{same_Some}
 use Rattle.graphql_names.specs.Placed.{Placed}

@@ -1,4 +1,4 @@
--- A document is valid by the book exactly where no rule on documents is broken.
+-- A document is valid by the book exactly when no rule on documents is broken.
 use Rattle.std.proofs.Common.{refl, Contains, inl, inr}
 use Rattle.rule_definitions.specs.Judged.{Judged}
 use Rattle.rule_document_definitions.specs.Selected.{operations}

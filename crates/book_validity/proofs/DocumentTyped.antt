@@ -1,4 +1,4 @@
--- A document is typed by the book exactly where no rule of typing is broken.
+-- A document is typed by the book exactly when no rule of typing is broken.
 use Rattle.std.proofs.Common.{◌≡◌, ◌⊎◌, ℕ, ◌+◌, ◌<◌, ◌≤◌, Bool, true, false, List, [], ◌∷◌, length, refl, sym, ap, subst, ◌∙◌, Option, None, Some, Contains, option_to_list, if◌then◌else◌, cond, inl, inr, is_some, true≢false, arith, length-append}
 use Rattle.std.specs.List.{flat_map, filter}
 use Rattle.std.specs.Option.{option_map}
@@ -74,7 +74,7 @@ module _ (m : Meanings) where
       let same : b ≡ based p t o = only (based p t o) b (subst (λ s. Contains (option_to_list (option_map (λ t. based p t o) s)) b) e c) in
       (e ∙ ap (λ (x : Op). Some x.base) (sym same), same ∙ ap (λ u. based p u o) (ap (λ (x : Op). x.base) (sym same)))
 
-  -- what stands for an operation with a name, without one
+  -- what is kept of an operation with a name, and of one without
   named_is : (p : Place) (o : OperationTree Place) (x : Option (Text Place)) → o.name ≡ x → (b : Op) → Contains (named_here m (Operation p o)) b → (n : Text Place) × ((o.name ≡ Some n) × Contains (based_operation m p o) b)
   named_is p o None e b c = not_in_nil b (subst (λ x. Contains (if is_none x then [] else based_operation m p o) b) e c)
   named_is p o (Some n) e b c = (n, (e, subst (λ x. Contains (if is_none x then [] else based_operation m p o) b) e c))
@@ -108,7 +108,7 @@ module _ (m : Meanings) where
   from_fragment (Operation p o) b c = not_in_nil b c
   from_fragment _ b c = not_in_nil b c
 
-  -- ---- names of what is kept, and of what stands there
+  -- ---- names of what is kept, and of what is there
 
   given_name : (p : Place) (o : OperationTree Place) (n : Text Place) → o.name ≡ Some n → Contains (operation_names (Operation p o)) n.it
   given_name p o n e = subst (λ x. Contains (option_to_list (option_map (λ (t : Text Place). t.it) x)) n.it) (sym e) (is_only n.it n.it refl)

@@ -1,4 +1,4 @@
--- A field set is valid by the book exactly where no rule on field sets is broken.
+-- A field set is valid by the book exactly when no rule on field sets is broken.
 use Rattle.std.proofs.Common.{◌≡◌, ℕ, List, [], None, Some, Contains, is_some, refl, sym, ap, subst, inl, inr, true≢false}
 use Rattle.tree_directives.specs.OperationQueries.{location_of_operation}
 use Rattle.tree_directives.specs.declared.operation_type.OperationType.TheVariants as operation

@@ -1,4 +1,4 @@
--- What definitions fold to behind what is built in: fields are of objects and interfaces, and what is built in is there.
+-- What definitions fold to after the built-in ones: only objects and interfaces have fields, and what is built in is there.
 use Rattle.std.proofs.Common.{◌≡◌, ◌⊎◌, ◌∙◌, ℕ, Bool, true, false, List, [], ◌∷◌, ◌++◌, map, filter, find, bytes_eq, Option, None, Some, option_map, option_to_list, ◌&&◌, not, Contains, codes, refl, sym, ap, subst, inl, inr, true≢false, is_some, is_none, if◌then◌else◌}
 use Rattle.std.proofs.lemmas.List.{append-nil}
 use Rattle.std.proofs.lemmas.List.Elements.{Contains-append_right}
@@ -70,7 +70,7 @@ module _ (first : ℕ) (texts : Definitions) where
   abbrev looks_of : TypeDefinition Place → TypeLooks
   looks_of t = type_looks (plain_type (folded_type (numbered first all) t))
 
-  -- under a name stands what its first definition folds to
+  -- under a name is what its first definition folds to
   named : (n : List ℕ) → (judged schema).type_named n ≡ option_map looks_of (defined n)
   named n = named_type schema n
       ∙ ap (option_map (λ v. type_looks (plain_type v))) (under_made type_name (folded_type (numbered first all)) n (firsts type_name (types_in all)) ∙ ap (option_map (folded_type (numbered first all))) (find_firsts type_name n (types_in all)))
@@ -161,7 +161,7 @@ module _ (first : ℕ) (texts : Definitions) where
         type_there = composite (codes "__Type") refl;
       }
 
-  -- ---- none is missing, so none is put behind
+  -- ---- none is missing, so none is added at the end
 
   none_missing : (n : List ℕ) → Contains scalar_names n → is_missing schema n ≡ false
   none_missing n c =

@@ -1,4 +1,4 @@
--- Definitions are foldable exactly where no folding rule is broken.
+-- Definitions are foldable exactly when no folding rule is broken.
 use Rattle.std.proofs.Common.{◌≡◌, ℕ, Bool, true, false, ◌++◌, Contains, refl, sym, ap, subst, ◌∙◌, Option, None, Some, is_some, true≢false}
 use Rattle.std.proofs.lemmas.Option.{same_Some}
 use Rattle.graphql_names.specs.Placed.{Place}

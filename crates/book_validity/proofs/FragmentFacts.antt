@@ -1,4 +1,4 @@
--- It is decided whether an operation reaches a fragment of the document: by its name, under which it stands.
+-- Whether an operation reaches a fragment of the document is decided by the fragment's name.
 use Rattle.std.proofs.Common.{◌≡◌, ℕ, List, refl, sym, ap, ◌∙◌, Option, None, Some, Contains, inr, is_some, true≢false}
 use Rattle.std.proofs.lemmas.Option.{same_Some}
 use Rattle.rule_definitions.specs.Words.{Present}

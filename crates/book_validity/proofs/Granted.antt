@@ -29,6 +29,6 @@ module _ (s : Judged) where
     pub schema_there : IsComposite s (codes "__Schema")
     pub type_there : IsComposite s (codes "__Type")
 
--- each field that can be selected stands on a composite type and returns an output type
+-- each field that can be selected is on a composite type and returns an output type
 abbrev pub HasOutputFields : SchemaTree Place → Type 0
 HasOutputFields s = (n m : List ℕ) (f : Definition) → (meanings (plain s)).field n m ≡ Some f → IsComposite (judged s) n × IsOutputType (judged s) (named_in f.ty)

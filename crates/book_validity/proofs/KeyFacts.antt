@@ -1,4 +1,4 @@
--- The keys of the objects in a value differ exactly where that rule is not broken.
+-- The keys of the objects in a value differ exactly when that rule is not broken.
 use Rattle.std.proofs.Common.{ℕ, List, refl, inl, inr}
 use Rattle.graphql_names.specs.Placed.{Placed, Text}
 use Rattle.tree_literals.specs.ValueTree.{ValueTree, ItemTrees, EntryTrees, NullTree, EnumTree, VariableTree, StringTree, FloatTree, IntTree, BooleanTree, ListTree, ObjectTree, no_items, item_then, no_entries, entry_then}

@@ -73,6 +73,6 @@ module _ {X : Type 0} (name : X → List ℕ) (xs : List X) where
   pub is_first_named : {P : ℕ → X → Type 0} (n : List ℕ) (x : X) → named name xs n ≡ Some x → ((i : ℕ) → P i x) → FirstNamed name xs n P
   is_first_named n x is p = let r = found_first name xs n (length xs) x (ap (find (has name n)) (take_all xs) ∙ is) in (r.0, (x, (r.1.1.0, (r.1.1.1.0, (r.1.1.1.1, p r.0)))))
 
-  -- the index at which it stands
+  -- its index
   pub found_index : (n : List ℕ) (x : X) → named name xs n ≡ Some x → (i : ℕ) × ((slice_get xs i ≡ Some x) × ((name x ≡ n) × IsFirst name xs n i))
   found_index n x is = let r = found_first name xs n (length xs) x (ap (find (has name n)) (take_all xs) ∙ is) in (r.0, (r.1.1.0, (r.1.1.1.0, r.1.1.1.1)))

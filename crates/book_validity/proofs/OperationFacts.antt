@@ -1,4 +1,4 @@
--- Subscriptions and the uses of @defer are valid exactly where no rule on them is broken.
+-- Subscriptions and the uses of @defer are valid exactly when no rule on them is broken.
 use Rattle.std.proofs.Common.{◌≡◌, Bool, false, refl, sym, ap, ◌∙◌, Option, None, Some, inl, inr, is_some, true≢false}
 use Rattle.std.proofs.lemmas.Option.{same_Some}
 use Rattle.graphql_names.specs.Placed.{Placed}

@@ -1,4 +1,4 @@
--- Any two fields at the root are the same one exactly where no list that has each of them once has more than one.
+-- Any two fields at the root are the same one exactly when no list that has each of them once has more than one.
 use Rattle.std.proofs.Common.{◌≡◌, ◌↔◌, ◌⊎◌, ◌<◌, ◌≤◌, zero, suc, List, [], ◌∷◌, ◌++◌, length, refl, sym, ap, subst, ◌∙◌, Some, option_to_list, Contains, is_some, inl, inr, true≢false, arith}
 use Rattle.std.specs.List.{flat_map}
 use Rattle.std.proofs.lemmas.Option.{same_Some}

@@ -1,4 +1,4 @@
--- A schema is valid by the book exactly where no rule on schemas is broken.
+-- A schema is valid by the book exactly when no rule on schemas is broken.
 use Rattle.std.proofs.Common.{◌≡◌, ℕ, Bool, true, false, List, ◌∷◌, refl, sym, ap, subst, ◌∙◌, Option, None, Some, Contains, inl, inr, is_some, true≢false}
 use Rattle.std.proofs.lemmas.Option.{same_Some}
 use Rattle.tree_directives.specs.DirectiveTree.{DirectiveDefinitionTree}

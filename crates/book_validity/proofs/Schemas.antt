@@ -1,5 +1,5 @@
--- A schema that keeps the rules, as validation leaves it: each field that can be selected stands on a composite type and returns
--- an output type.
+-- A schema that keeps the rules, as validation leaves it: each field that can be selected is on a composite type and returns an
+-- output type.
 use Rattle.std.proofs.Common.{arith, ◌≡◌, ◌⊎◌, ◌∙◌, ◌&&◌, not, ℕ, Bool, true, false, cond, List, [], ◌∷◌, ◌++◌, map, filter, find, bytes_eq, Option, None, Some, option_map, Contains, codes, refl, sym, ap, subst, inl, inr, true≢false, is_some, if◌then◌else◌}
 use Rattle.std.specs.FinMap as fin
 use Rattle.std.specs.Option.{option_or, option_and_then}

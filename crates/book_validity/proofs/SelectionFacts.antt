@@ -1,4 +1,4 @@
--- What is selected, and the fragments that are reached, are valid exactly where no rule on them is broken.
+-- What is selected, and the fragments that are reached, are valid exactly when no rule on them is broken.
 use Rattle.std.proofs.Common.{◌≡◌, ◌⊎◌, ℕ, List, Some, is_some, refl, sym, ap, ◌∙◌, inl, inr, true≢false}
 use Rattle.std.proofs.lemmas.Option.{same_Some}
 use Rattle.tree_directives.specs.OperationQueries.{location_of_operation}

@@ -1,4 +1,4 @@
--- What is applied in a schema is valid exactly where no rule on it is broken at spots of the schema.
+-- The directives and values applied in a schema are valid exactly when no rule on them is broken at a spot of the schema.
 use Rattle.std.proofs.Common.{◌≡◌, ℕ, suc, List, [], ◌∷◌, map, refl, sym, ap, ap₂, subst}
 use Rattle.graphql_names.specs.Placed.{Placed}
 use Rattle.tree_literals.specs.ValueTree.{ValueTree, ItemTrees, EntryTrees, NullTree, EnumTree, VariableTree, StringTree, FloatTree, IntTree, BooleanTree, ListTree, ObjectTree, no_items, item_then, no_entries, entry_then, unplaced_value, unplaced_items, unplaced_entries}

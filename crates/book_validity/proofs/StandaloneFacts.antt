@@ -1,4 +1,4 @@
--- A document is valid without a schema by the book exactly where no rule on such documents is broken.
+-- A document is valid without a schema by the book exactly when no rule on such documents is broken.
 use Rattle.std.proofs.Common.{◌≡◌, ℕ, None, Contains, refl, inl, inr}
 use Rattle.rule_definitions.proofs.Lists.{index_found, index_given}
 use Rattle.rule_definitions.specs.Names.{argument_name, defined_name}

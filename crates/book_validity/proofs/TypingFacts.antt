@@ -1,4 +1,4 @@
--- Selections are typed exactly where no rule of typing is broken in their set.
+-- Selections are typed exactly when no rule of typing is broken in their set.
 use Rattle.std.proofs.Common.{◌≡◌, ◌⊎◌, ℕ, Bool, true, false, not, ◌&&◌, ◌||◌, List, refl, sym, ap, subst, ◌∙◌, Option, None, Some, inl, inr, is_some, true≢false}
 use Rattle.std.proofs.lemmas.Option.{same_Some}
 use Rattle.tree_operations.specs.SelectionTree.{SelectionTree, FieldTree, SpreadTree, InlineTree, SelectionTrees, no_selections, selection_then}
@@ -48,7 +48,7 @@ module _ {P : Type 0} (m : Meanings) where
   one t (InlineTree p (Some c) ds ts) fault h (subselection_on_enum_type b) = b
   one t (InlineTree p (Some c) ds ts) fault h (undefined_type_in_inline_fragment_type_condition b) = true≢false (sym h.0 ∙ b.0)
 
-  -- what stands in a typed set is typed
+  -- what is in a typed set is typed
   inside : (u : List ℕ) (s : SelectionTree P) (t : List ℕ) (ts : SelectionTrees P) → AreTyped m t ts → StandsIn m u s t ts → IsTyped m u s
   inside u s t ts h (first ss) = h.0
   inside u s t ts h (later t' x ss st) = inside u s t' ss h.1 st

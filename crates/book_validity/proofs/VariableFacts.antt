@@ -1,4 +1,4 @@
--- The variables of an operation are valid exactly where no rule on them is broken.
+-- The variables of an operation are valid exactly when no rule on them is broken.
 use Rattle.std.proofs.Common.{◌≡◌, ◌↔◌, ℕ, List, [], refl, sym, ap, ◌∙◌, Option, None, Some, inl, inr, true≢false}
 use Rattle.std.proofs.lemmas.Option.{same_Some}
 use Rattle.graphql_names.specs.Placed.{Placed}
@@ -32,7 +32,7 @@ use Rattle.rule_document_definitions.proofs.Spreading.{at_reached, at_reached_fr
 abbrev U : Type 0
 U = Unit {0}
 
--- ---- whether a variable stands there
+-- ---- whether a variable is there
 
 module _ (n : List ℕ) where
   mutual

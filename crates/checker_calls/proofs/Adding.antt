@@ -104,11 +104,11 @@ module _ (terms : Terms) (texts : List SourceText) (number : ℕ) (text : Source
         next = next_number terms texts number text faults faults here;
       }
 
-      -- behind one that is not read: any
+      -- after a text that was not read: any text
       pub behind_added : faults ≢ [] → AreAdded terms (texts ++ text ∷ []) (number + 1) trees sources faults
       behind_added some = read_added trees sources (λ silent. absurd (some silent)) (λ silent. absurd (some silent))
 
-      -- behind texts that are read: one of which the tree is kept
+      -- after texts that were all read: a text whose tree is kept
       pub tree_added : AreAdded terms (texts ++ text ∷ []) (number + 1) (trees ++ tree ∷ []) (sources ++ (number, unnamed_source text) ∷ []) faults
       tree_added = read_added (trees ++ tree ∷ []) (sources ++ (number, unnamed_source text) ∷ [])
           (λ silent. reads_more text number terms.first_text texts trees tree here (added.kept silent) reads)

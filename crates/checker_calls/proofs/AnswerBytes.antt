@@ -17,7 +17,7 @@ pub made_as : {Z E : Type 0} (made : Result (String Z) E) (bytes other : List �
 made_as (Ok text) bytes other same h = h ∙ same
 made_as (Err refused) bytes other same h = tt
 
--- one more line behind others
+-- one more line after others
 pub lines_more : {A B : Type 0} (line : B → List ℕ) (of : A → B) (start : List ℕ) (told : List A) (i : ℕ) (fault : A) → i < length told → fault ≡ get_or told i fault
     → (start ++ flat_map line (map of (take i told))) ++ line (of fault) ≡ start ++ flat_map line (map of (take (i + 1) told))
 lines_more line of start told i fault inside is =

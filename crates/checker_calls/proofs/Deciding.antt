@@ -52,7 +52,7 @@ one_list first (text ∷ texts) (a ∷ trees) (b ∷ bs) r s =
 
 -- ---- faults
 
--- want of memory is told of no text
+-- out of memory is never told of a text
 memory_told : (number : ℕ) (fault : read.Fault) (told : AnyFault) → fault ≡ read.Memory → TellsReadFault number fault told → ⊥
 memory_told number read.Memory told same tells = tells
 memory_told number (read.NoToken offset) told same tells = absurd cc

@@ -46,7 +46,7 @@ parts_on kept more (range ∷ ranges) in' = λ i. part_on kept more range (All-h
 pub fits : (len : ℕ) (text : List ℕ) (new : ℕ) → len + length text < 2 ^ 64 → new ≡ len + length text → new < 2 ^ 64
 fits len text new small is = omega (arith, small, is)
 
--- a text is kept behind the others
+-- a text is kept after the others
 pub kept_behind : (old new : Parts) (text : List ℕ) → new.kept.items ≡ old.kept.items ++ text → new.ranges.items ≡ old.ranges.items → new.last ≡ old.last → new.len ≡ old.len + length text → new.len < 2 ^ 64 → AddsBytes old text new
 kept_behind old new text kept ranges last len fits sound =
     let bytes : parts_bytes new ≡ parts_bytes old ++ text =
@@ -114,7 +114,7 @@ first_more parts i in' =
     flat_map_more (part_of parts.kept.items) [] (take i parts.ranges.items) (get_or parts.ranges.items i (0, 0))
     ∙ ap (flat_map (part_of parts.kept.items)) (sym (take_more parts.ranges.items i (0, 0) in'))
 
--- what comes behind so many parts
+-- what comes after the first `i` parts
 abbrev behind_first : (parts : Parts) → ℕ → List ℕ
 behind_first parts i = flat_map (part_of parts.kept.items) (drop i parts.ranges.items) ++ drop parts.last parts.kept.items
 
@@ -133,7 +133,7 @@ room_behind front text rest all before bound count is below =
     omega (arith, count, long, below)
 
 module _ {W : Type 0} (contents : W → Option (List ℕ)) (old mid new : Device W) where
-  -- a text is written behind others, and not whole
+  -- a text is written after others, but not all of it
   pub fault_behind : (front text rest all : List ℕ) (before : ℕ) (fault : RunFault) → before ≡ length front → all ≡ front ++ (text ++ rest) → Appends (contents (device_inner old)) (contents (device_inner mid)) front
       → IsPutFaultAfter contents before mid new text fault → IsPutFault contents old new all fault
   fault_behind front text rest all before fault count is out (taken, told, (short, failed, put)) =

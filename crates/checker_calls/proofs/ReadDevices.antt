@@ -25,13 +25,13 @@ module _ {D : Type 0} (old now : List D) (i : ℕ) (d r : D) (inside : i < lengt
   pub read_on : {T : Type 0} (P : D → T → Type 0) (texts : List T) (t : T) → AllZip P (take i old) texts → P d t → AllZip P (take (i + 1) old) (texts ++ t ∷ [])
   read_on P texts t h p = subst (λ xs. AllZip P xs (texts ++ t ∷ [])) (sym (take-add i 1 old ∙ ap (λ l. take i old ++ take 1 l) at_hand)) (AllZip-both P (take i old) texts d t h p)
 
-  -- the devices behind stay as they were
+  -- the devices after it are unchanged
   pub rest_on : (e : D) → drop (i + 1) (set now i e) ≡ drop (i + 1) old
   rest_on e = drop-set-lt (i + 1) now i e (omega arith) ∙ behind where
     behind : drop (i + 1) now ≡ drop (i + 1) old
     behind = sym (drop-drop 1 i now) ∙ ap (drop 1) rest ∙ drop-drop 1 i old
 
-  -- the one at hand in the whole list
+  -- the current device in the whole list
   pub at_old : slice_get old i ≡ Some d
   at_old =
       let read : get_or (drop i old) 0 r ≡ d = ap (λ l. get_or l 0 r) at_hand in
@@ -43,7 +43,7 @@ pub at_set : {D : Type 0} (xs : List D) (i : ℕ) (e : D) → i < length xs → 
 at_set xs i e h = slice_get-get_or (slice_set xs i e) i e (omega (arith, length-set xs i e)) ∙ ap (λ x. Some x) (get_or-set_same xs i e e h)
 
 module _ {R : Type 0} (remaining : R → Option (List ℕ)) (old now : List (Device R)) (i : ℕ) (d e : Device R) where
-  -- the fault behind `i` texts, by its number
+  -- the fault after `i` texts, by its number
   next_due : (fault : TextFault) → slice_get old i ≡ Some d → slice_get now i ≡ Some e → IsTextFault remaining d e fault → IsReadFault remaining old now (numbered_fault fault (suc i))
   next_due Memory before after h = tt
   next_due Reader before after h = rw after h

@@ -31,7 +31,7 @@ some_names = (
   (refer (refer (codes "line") ∷ refer (codes "two") ∷ refer (codes "four") ∷ refer (codes "tab") ∷ []), refl, refl),
 )
 
--- an error for want of memory is one that may come whatever the words are
+-- out of memory may be the error whatever the words are
 pub memory_out : (r : Result Settings Error) (kinds : Kinds) (P : Settings → Type 0) → IsErrAnd r (λ e. kind_of e ≡ OutOfMemory) → FailsBy kinds r × IfOk r P
 memory_out (Ok s) kinds P h = absurd h
 memory_out (Err e) kinds P h = (inl h, tt)

@@ -44,7 +44,7 @@ module _ (s : SchemaTexts) (file : FileId) (before : IsBefore (texts_of s) file 
       (fault_added (terms_of s) (texts_of s) file.0 text (trees_of s) (all_sources s.documents.items) (diagnostics_of s.unread) before.added before.left (details_at (Some place, details)) is)
 
   module _ (tree : Tree) (reads : ReadsText file.0 text tree) (nests : NestingBound s.nesting text → ⊥) where
-    -- one that is read, behind one that is not
+    -- one that is read, after one that is not
     pub behind_kept : diagnostics_of s.unread ≢ [] → AreAdded (terms_of s) (texts_of s ++ text ∷ []) (file.0 + 1) (trees_of s) (all_sources s.documents.items) (diagnostics_of s.unread)
     behind_kept some = behind_added (terms_of s) (texts_of s) file.0 text (trees_of s) (all_sources s.documents.items) (diagnostics_of s.unread) before.added before.left tree reads nests some
 

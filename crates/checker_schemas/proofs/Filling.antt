@@ -50,7 +50,7 @@ module _ (number : ℕ) (documents : List Document) (i : ℕ) (d : Document) (in
       ∙ flat_map-append (λ t. t) (map document_tree (take (i + 1) documents)) (map document_tree (drop (i + 1) documents))
       ∙ ap (λ l. l ++ all_definitions (map document_tree (drop (i + 1) documents))) definitions_more
 
-  -- its sources behind those before it
+  -- its sources come after those of the documents before it
   sources_more : all_sources (take (i + 1) documents) ≡ all_sources (take i documents) ++ sources_of d
   sources_more =
       ap (flat_map (λ ss. ss)) (map_more sources_of documents i d inside)

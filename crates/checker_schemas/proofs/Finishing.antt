@@ -70,8 +70,8 @@ unread_refused terms texts faults some unread = record {
 none_alone : spent ∷ [] ≢ []
 none_alone e = absurd cc
 
--- what is told of the schema of the trees: each breach of a folding rule, or that numbers are spent; of a rule on schemas, those on
--- cycles aside, each, unless as many are told as one call tells; and that numbers are spent stands alone
+-- what is told of the schema of the trees: each broken folding rule, or that the numbers are used up; each broken rule on schemas, apart
+-- from those on cycles, unless one call tells no more; and if the numbers are used up, that alone
 module _ (terms : Terms) (faults : List AnyFault) (trees : List Tree) where
   abbrev FoldingTold : Type 0
   FoldingTold = (faults ≡ spent ∷ []) ⊎ ((f : folding.BuildFault) → FoldingFails terms trees f → Contains faults (of_folding f))

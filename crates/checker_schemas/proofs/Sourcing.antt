@@ -8,7 +8,7 @@ use Rattle.schema_building.specs.SourcesView.{with_sources}
 use Rattle.checker_calls.specs.in_verdict_definitions.Texts.{SourceText}
 use Rattle.checker_calls.specs.TextSources.{Sources, text_sources}
 
--- those of two lists are those of one behind those of the other
+-- adding two lists joined is adding the first, then the second
 pub with_append : (old front more : Sources) → with_sources old (front ++ more) ≡ with_sources (with_sources old front) more
 with_append old [] more = refl
 with_append old (s ∷ front) more = with_append (insert_entry nat_eq old s.0 s.1) front more
@@ -22,7 +22,7 @@ below_more : (number : ℕ) (ss : Sources) (source : Source) → AreBelow number
 below_more number [] source below = (omega arith, tt)
 below_more number (s ∷ ss) source below = let less = below.0 in (omega (arith, less), below_more number ss source below.1)
 
--- one with a greater number goes behind them
+-- one with a greater number goes after them
 insert_behind : (number : ℕ) (source : Source) (ss : Sources) → AreBelow number ss → insert_entry nat_eq ss number source ≡ ss ++ (number, source) ∷ []
 insert_behind number source [] below = refl
 insert_behind number source (s ∷ ss) below =

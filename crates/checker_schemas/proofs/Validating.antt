@@ -16,7 +16,7 @@ fails_so : (s : SchemaTree Place) (f : PlacedFault) → Told s RulesOrBoundFail 
 fails_so s f (broken, (inl breaks, told)) = inl (broken, (breaks, told))
 fails_so s f (broken, (inr passes, told)) = inr (broken, (passes, told))
 
--- what is told behind nothing
+-- what is told if nothing was told before
 pub rules_told : (s : SchemaTree Place) (old new : List AnyFault) → old ≡ [] → SchemaTold s old new → new ≢ [] → RefusesSchemaRules s new
 rules_told s old new none told some =
     let is : new ≡ map of_rule (take most_told told.0) = told.1.0 ∙ ap (λ l. l ++ map of_rule (take most_told told.0)) none in

@@ -1,4 +1,4 @@
--- What stands where a name is found, and membership in lists.
+-- What is found under a name, and membership in lists.
 use Rattle.std.proofs.Common.{◌≡◌, ◌+◌, ◌<◌, ◌⊎◌, inl, inr, ℕ, zero, suc, Bool, true, false, List, [], ◌∷◌, map, length, get_or, refl, ap, sym, ◌∙◌, subst, arith, true≢false, Contains}
 use Rattle.std.specs.Prelude.{Option, Some, None, is_some, unwrap_or, slice_get, cond, not, nat_lt}
 use Rattle.std.specs.List.{position, position_from, prefix_len, find}
@@ -11,7 +11,7 @@ none_is_some a h = absurd (true≢false (sym (ap is_some h)))
 pub some_is : {A : Type 0} (a b : A) → Some a ≡ Some b → a ≡ b
 some_is a b h = ap (λ o. unwrap_or o a) h
 
--- what stands at a place that is found
+-- the item at an index that was found
 pub record FoundAt {X : Type 0} (test : X → Bool) (xs : List X) (k : ℕ) : Type 0 where
   pub item : X
   pub stands : slice_get xs k ≡ Some item

@@ -1,4 +1,4 @@
--- What look-ups, insertions and walks over the operations of a document find in the tree.
+-- What lookups, insertions and walks over the operations of a document find in the tree.
 use Rattle.std.proofs.Common.{◌≡◌, ℕ, Bool, true, false, List, [], ◌∷◌, map, Option, None, Some, refl, ap, ◌∙◌, if◌then◌else◌, Bor, MutBor, slice_get}
 use Rattle.std.specs.List.{find, cons_option}
 use Rattle.std.specs.Map.{lookup, values_of, set_value}

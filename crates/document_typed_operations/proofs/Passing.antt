@@ -15,7 +15,7 @@ map-append f [] ys = refl
 map-append f (x ∷ xs) ys = ap (λ l. f x ∷ l) (map-append f xs ys)
 
 module _ {P : Type 0} where
-  -- what stands in a selection itself, if that is walked over
+  -- the members that a selection itself contains, if the walk enters it
   abbrev pub inner_members : Bool → TypedSelection P → List (Member P)
   inner_members nested (TypedField p d h s) = if nested then own_members s else []
   inner_members nested (TypedSpread p n ds) = []
@@ -28,7 +28,7 @@ module _ {P : Type 0} where
   pub members_in-list : (nested : Bool) (s : TypedSet P) → members_in nested s ≡ flat_map (members_from nested) (own_members s)
   members_in-list nested (typed_set ty ss) = members_along-list nested ty ss
 
-  -- a selection, then what stands in its members
+  -- a selection, then the members that it contains
   members_of-inner : (nested : Bool) (ty : Text P) (s : TypedSelection P) → members_of nested ty s ≡ (ty, s) ∷ flat_map (members_from nested) (inner_members nested s)
   members_of-inner true ty (TypedField p d h s) = ap (λ l. (ty, TypedField p d h s) ∷ l) (members_in-list true s)
   members_of-inner false ty (TypedField p d h s) = refl
@@ -57,7 +57,7 @@ module _ {P : Type 0} where
     noted = fold (note w.fragments) w.noted (spread_names s);
   }
 
-  -- what is left behind some selections that are passed
+  -- what is left after some selections were passed
   abbrev left_behind : WalkState P → List (TypedSelection P) → List (Member P)
   left_behind w passed = left_in_fragments w.nested w.fragments (length w.fragments - w.entered) (note_all w.fragments w.noted passed) w.entered
 
@@ -74,7 +74,7 @@ module _ {P : Type 0} where
       ap (λ l. l ++ left_behind w (bare_selections l)) inside
       ∙ ap (λ ns. (ty, s) ∷ (pending_members (after s w) ++ left_in_fragments w.nested w.fragments (length w.fragments - w.entered) ns w.entered)) (names_noted w s (bare_selections (pending_members (after s w))))
 
-  -- a walk that stands where it has passed the selection
+  -- a walk that has just passed the selection
   pub has_passed : (e : Member P) (old new : WalkState P) → new ≡ after e.1 old → HasPassed e old new
   has_passed e old new is = subst (λ w. HasPassed e old w) (sym is) (record {
     passed = passed e old;

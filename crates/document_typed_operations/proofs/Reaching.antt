@@ -11,7 +11,7 @@ use Rattle.document_typed_operations.proofs.Finding.{not_in_nil, Contains-cons, 
 use Rattle.document_typed_operations.proofs.Passing.{bare_in}
 use Rattle.document_typed_operations.proofs.WalkLaws.{from_one, to_all}
 
--- what stands in a mapped list comes from the list, and what comes from the list stands there
+-- each element of a mapped list comes from one of the list, and each of the list has its image there
 from_map : {A B : Type 0} (f : A → B) (xs : List A) (y : B) → Contains (map f xs) y → (x : A) × (Contains xs x × (f x ≡ y))
 from_map f [] y c = absurd (not_in_nil y c)
 from_map f (x ∷ xs) y c = elim (Contains-cons (f x) (map f xs) y c) [
@@ -71,7 +71,7 @@ module _ {P : Type 0} (nested : Bool) where
       (e.0, (e.1.0, subst (λ y. Contains (spread_names y) n) (sym e.1.1) x.1.1))
 
   module _ (fs : Fragments P) (start : TypedSet P) where
-    -- ---- what stands in a reached set is reached
+    -- ---- what is in a reached set is reached
 
     abbrev Reaches : Member P → Type 0
     Reaches = IsReached nested fs start

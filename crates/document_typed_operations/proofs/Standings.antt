@@ -64,7 +64,7 @@ pub inline_passed : (ty : NameValue) (n : Node InlineFragment) (f : InlineFragme
 inline_passed ty n f s old new is of went =
     subst (λ t. HasPassed (name_tree ty, t) old new) (sym (ap typed_selection_tree is ∙ typed_tree_inline n)) (has_passed _ old new (went ∙ ap (λ (g : InlineFragment). with_more (own_members (typed_set_tree g.selection_set)) old) of))
 
--- a name, and the selections of what stands under it
+-- a name, and the selections of what is under it
 abbrev pub named_set : NameValue × Node Fragment → NamedSet Place
 named_set e = (e.0.text, fragment_set e.1)
 

@@ -39,7 +39,7 @@ gives_nothing is_over left old new (Some item) h over = absurd (true≢false (sy
 -- ---- loops over a walk
 
 module _ {W : Type 0} (is_over : W → Bool) (left : W → List (TypedSelection Place)) where
-  -- what was given so far and what is left stay together what they were, with the field that was lent behind those given
+  -- what was given so far and what is left are together unchanged when the field that was lent is added to those given
   pub given_and_left : (before : List (TypedSelection Place)) (old new : W) (field : Bor (Node Field)) → left old ≡ typed_field_node field.now ∷ left new
       → before ++ left old ≡ (before ++ typed_field_node field.now ∷ []) ++ left new
   given_and_left before old new field lent = ap (λ l. before ++ l) lent ∙ sym (append_assoc before (typed_field_node field.now ∷ []) (left new))

@@ -73,7 +73,7 @@ pub none_twice : {X : Type 0} (eq : X → X → Bool) → IsDistinct eq []
 unfolding IsDistinct
 none_twice eq = tt
 
--- the place at which the fragment of that name stands
+-- the index of the fragment with that name
 abbrev pub place_in : {P : Type 0} → Fragments P → List ℕ → Option ℕ
 place_in fs n = position (bytes_eq n) (map (λ f. f.0) fs)
 
@@ -298,7 +298,7 @@ module _ {P : Type 0} (nested : Bool) (fs : Fragments P) (start : TypedSet P) wh
       (other_names i known.0 is (IsDistinct-head nat_eq i is apart) known.1)
       (once is known.1 (IsDistinct-tail nat_eq i is apart)))
 
-  -- what stands in the order is reached
+  -- each fragment in the order is reached
   order_reached : (is : List ℕ) → AllByRecursion (Known nested fs start) is → (f : NamedSet P) → Contains (flat_map (λ i. entry_if (slice_get fs i)) is) f → ReachedFragment nested fs start f
   order_reached [] known f h = absurd (not_in_nil f h)
   order_reached (i ∷ is) known f h = by (Contains-append_cases (known.0.fragment ∷ []) (flat_map (λ j. entry_if (slice_get fs j)) is) f (subst (λ (o : Option (NamedSet P)). Contains (entry_if o ++ flat_map (λ j. entry_if (slice_get fs j)) is) f) known.0.stands h)) (order_reached is known.1 f)
@@ -311,7 +311,7 @@ module _ {P : Type 0} (nested : Bool) (fs : Fragments P) (start : TypedSet P) wh
       by (inl e) further = this (Contains-cons known.0.fragment [] f e)
       by (inr e) further = further e
 
-  -- what stands at a place that is entered stands in the order
+  -- the fragment at each index that was entered is in the order
   order_has : (is : List ℕ) (i : ℕ) (f : NamedSet P) → has i is ≡ true → slice_get fs i ≡ Some f → Contains (flat_map (λ j. entry_if (slice_get fs j)) is) f
   order_has [] i f h at = absurd (true≢false (sym h))
   order_has (j ∷ js) i f h at = by (nat_eq i j) refl (order_has js i f)
@@ -321,7 +321,7 @@ module _ {P : Type 0} (nested : Bool) (fs : Fragments P) (start : TypedSet P) wh
           (subst (λ (o : Option (NamedSet P)). Contains (entry_if o) f) (sym (ap (slice_get fs) (sym (same i j is)) ∙ at)) (Contains-first f [] f refl))
       by false is further = Contains-append_right (entry_if (slice_get fs j)) (flat_map (λ k. entry_if (slice_get fs k)) js) f (further (sym (ap (λ b. b || has i js) is) ∙ h) at)
 
-  -- a place that is entered, at which the fragment stands
+  -- an index that is entered, and is that of the fragment
   abbrev StandsIn : List ℕ → NamedSet P → Type 0
   StandsIn is f = (i : ℕ) × ((has i is ≡ true) × (slice_get fs i ≡ Some f))
 
@@ -330,7 +330,7 @@ module _ {P : Type 0} (nested : Bool) (fs : Fragments P) (start : TypedSet P) wh
       let found = place_of_found (λ (g : NamedSet P). bytes_eq n g.0) fs f named in
       (found.0, (position-map (λ (g : NamedSet P). g.0) (bytes_eq n) fs ∙ found.1.0, found.1.1))
 
-  -- what is reached stands among the places, if what the start spreads does, and what they spread does
+  -- what is reached is at one of the indices, if what the start spreads is, and what these spread is
   stands_in : (is : List ℕ) → ((n : List ℕ) → Spreads nested start n → (i : ℕ) → place_in fs n ≡ Some i → has i is ≡ true) → ((i : ℕ) → has i is ≡ true → SpreadsAmong nested fs is i)
       → (f : NamedSet P) → ReachedFragment nested fs start f → StandsIn is f
   stands_in is from closed f (by_start n spread named) =

@@ -1,4 +1,4 @@
--- What is written of sets, and of what stands under names.
+-- What is written of sets, and of what is under names.
 use Rattle.std.proofs.Common.{◌≡◌, ℕ, List, [], ◌∷◌, map, take, length, ◌≤◌, Option, None, Some, option_to_list, refl, sym, ap, ◌∙◌}
 use Rattle.std.specs.Prelude.{Vec}
 use Rattle.std.specs.declared.alloc.Global.{Global}
@@ -51,7 +51,7 @@ pub inline-written : (n : Node InlineFragment) (p : Place) (condition : Option (
 inline-written n p condition directives selections ep ec ed es = selection_tree_inline n ∙ (λ i. InlineTree (ep i) (ec i) (ed i) (selection_trees selection_tree (es i).items))
 
 module _ {X A B : Type 0} (view : X → A) (written : A → B) where
-  -- what is written of what stands under names
+  -- what is written of what is under names
   pub values-written : (es : List (NameValue × X)) → map (λ x. written (view x)) (values_of es) ≡ map (λ (e : List ℕ × A). written e.1) (map (λ (e : NameValue × X). (name_text e.0, view e.1)) es)
   values-written [] = refl
   values-written (e ∷ es) = ap (λ l. written (view e.1) ∷ l) (values-written es)

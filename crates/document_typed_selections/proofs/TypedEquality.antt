@@ -1,4 +1,4 @@
--- `==` of selections and of sets says whether their trees are the same, places aside.
+-- `==` of selections and of sets says whether their trees are the same, ignoring places.
 use Rattle.std.proofs.Common.{◌≡◌, Bool, List, [], ◌∷◌, map, refl, ap, sym, ◌∙◌, subst, None}
 use Rattle.std.specs.Bool.{Decides}
 use Rattle.std.specs.Cmp.Lexicographic.{pointwise}
@@ -46,7 +46,7 @@ set_eq = set.ghosts.eq
 abbrev pub spread_eq : FragmentSpread → FragmentSpread → Bool
 spread_eq = spread.ghosts.eq
 
--- two selections, fields, spreads, inline fragments, sets are the same, places aside
+-- two selections, fields, spreads, inline fragments or sets are the same, ignoring places
 abbrev pub SameSelection : Selection → Selection → Type 0
 SameSelection d e = unplaced_typed_selection (typed_selection_tree d) ≡ unplaced_typed_selection (typed_selection_tree e)
 

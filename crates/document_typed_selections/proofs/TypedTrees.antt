@@ -1,4 +1,4 @@
--- How the plain trees of selections and sets go on, what they are with more behind them, and that copies have the same.
+-- The plain trees of selections and sets: their parts, what they are with more parts after them, and that copies have the same.
 use Rattle.std.proofs.Common.{◌≡◌, List, [], ◌∷◌, ◌++◌, map, refl, ap, sym, ◌∙◌, length, ◌==◌, rules, if◌then◌else◌, Some}
 use Rattle.std.proofs.lemmas.List.{map-append}
 use Rattle.std.specs.Prelude.{ℕ, find, bytes_eq}
@@ -103,7 +103,7 @@ pub ruleset typed_tree_rules = (typed_tree_field, typed_tree_inline)
 -- how the tree of a set goes on
 pub ruleset typed_set_rules = (typed_set_tree_out, typed_selections-append, field_nodes-trees)
 
--- what stands behind further parts
+-- trees with more parts after them
 pub ruleset added_rules = (typed_set_tree_out, typed_selections-append, map-append)
 
 -- which nodes are fields

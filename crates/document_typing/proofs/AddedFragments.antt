@@ -19,7 +19,7 @@ use Rattle.document_typing.specs.TypedDefinitions.{Typed, told, faults_if, is_un
 use Rattle.document_typing.specs.StepsView.{fragment_meaning, fragment_meanings}
 use Rattle.document_typing.proofs.KnownNames.{known-under, none-of}
 
--- a fragment whose name is not known, put behind the others
+-- a fragment with a new name, added after the others
 pub fragment-put : {S : Type 0} (old new : IndexMap NameValue (Node Fragment) S) (n k : NameValue) (f : Node Fragment) (x : MeantFragment Place)
     → k ≡ n → fragment_meaning f ≡ x → new.entries ≡ insert_entry (same_text name_text) old.entries k f → is_under n.text (fragment_meanings old) ≡ false
     → fragment_meanings new ≡ fragment_meanings old ++ (n.text, x) ∷ []

@@ -22,14 +22,14 @@ use Rattle.document_typing.specs.StepsView.{named_meanings}
 use Rattle.document_typing.specs.DocumentView.{meant_by_operation, operation_meant}
 use Rattle.document_typing.proofs.DocumentMeant.{optional, entries}
 
--- ---- where it stands
+-- ---- where it is
 
--- a document with an operation of that name behind the others, or without one
+-- a document with this operation added: after the others with a name, or as the one without a name
 abbrev pub and_kept : {P : Type 0} → Option (Text P) → MeantOperation P → MeantDocument P → MeantDocument P
 and_kept None o d = record d { anonymous = Some o }
 and_kept (Some n) o d = record d { named = d.named ++ (n.it, o) ∷ [] }
 
--- what stands under a name that is not there stands last
+-- what is put under a new name comes last
 module _ {A B : Type 0} (view : A → B) (name : List ℕ) (a : A) where
   abbrev seen : Entries A → Entries B
   seen es = map {B = List ℕ × B} (λ (e : List ℕ × A). (e.0, view e.1)) es

@@ -1,4 +1,4 @@
--- Whose definitions are the schema's: selections that are put behind others, sets, and what is put under a name.
+-- The definitions are the schema's: of selections added after others, of sets, and of what is put under a name.
 use Rattle.std.proofs.Common.{◌≡◌, ℕ, Bool, true, false, List, [], ◌∷◌, ◌++◌, map, Option, None, Some, Vec, sym, ap, subst, ◌∙◌, if◌then◌else◌}
 use Rattle.std.specs.Str.{bytes_eq}
 use Rattle.std.specs.declared.alloc.Global.{Global}
@@ -33,7 +33,7 @@ module _ (s : Option (SchemaTree Place)) where
     defined-push [] x h d = (d, tt)
     defined-push (y ∷ ys) x h d = (h.0, defined-push ys x h.1 d)
 
-    -- a selection, put behind others
+    -- a selection, added after others
     pub kept-push : (old new : Vec Selection Global) (x : Selection) → new.items ≡ old.items ++ x ∷ [] → IsDefined s t (typed_selection_tree x) → AreKeptDefined s t old → AreKeptDefined s t new
     kept-push old new x pushed d h = subst (λ l. AreDefined s t (typed_selections typed_selection_tree l)) (sym pushed) (defined-push old.items x h d)
 

@@ -54,7 +54,7 @@ module _ {D B : Type 0} (here : D → List B) (name : B → List ℕ) (one : (d 
   pub kept-places : (ds : List D) → kept ds ≡ each_place (λ before d. fresh before (here d)) ds
   kept-places ds = is-each_place (λ before d. fresh before (here d)) kept refl kept-more ds
 
-  -- what is kept stands somewhere, and no kept one before it has its name
+  -- what is kept comes from some definition, and nothing kept before that has its name
   pub kept-found : (ds : List D) (b : B) → Contains (kept ds) b → AtSomePlace (λ before d. (here d ≡ b ∷ []) × (has_name name (name b) (kept before) ≡ false)) ds
   kept-found ds b c = let x = found_at (λ before d. fresh before (here d)) ds b (subst (λ l. Contains l b) (kept-places ds) c) in (x.0, (x.1.0, (x.1.1.0, by x.0 x.1.0 (one x.1.0) x.1.1.1)))
     where

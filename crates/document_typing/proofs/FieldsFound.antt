@@ -1,4 +1,4 @@
--- What a look-up of a field finds on a type that was found, without places.
+-- What a lookup of a field finds on a type that was found, without places.
 use Rattle.std.proofs.Common.{◌≡◌, ℕ, Bool, false, ◌||◌, List, Option, None, Some, Bor, sym, ap, subst, ◌∙◌, option_and_then}
 use Rattle.std.specs.Option.{option_map, option_map_or, option_or}
 use Rattle.std.specs.FinMap as fin

@@ -30,7 +30,7 @@ module _ {D B : Type 0} (here : D → List B) (name : B → List ℕ) where
   abbrev kept : List D → List B
   kept ds = firsts name (flat_map here ds)
 
-  -- what d adds behind these, where it has this
+  -- what d adds to those before it, if it has this element
   abbrev pub added_of : List D → List B → List B
   added_of before [] = []
   added_of before (b ∷ bs) = if has_name name (name b) (kept before) then [] else b ∷ []

@@ -15,7 +15,7 @@ module _ {V A : Type 0} (view : V → A) (n : NameValue) where
   any-under [] = refl
   any-under (e ∷ es) = ap (λ b. bytes_eq n.text e.0.text || b) (any-under es)
 
-  -- what a look-up finds
+  -- what a lookup finds
   pub known-under : (es : List (NameValue × V)) → is_some (lookup (λ k. bytes_eq n.text k.text) es) ≡ is_under n.text (map seen_as es)
   known-under es = is_some-lookup (λ k. bytes_eq n.text k.text) es ∙ any-under es
 

@@ -38,7 +38,7 @@ schema_of query types = record {
   type_named = λ n. find (λ t. bytes_eq n t.name.it) types;
 }
 
--- ---- selections, which stand at numbers
+-- ---- selections, whose places are numbers
 
 abbrev pub name_at : ℕ → List ℕ → Text ℕ
 name_at p n = record { it = n; place = p }

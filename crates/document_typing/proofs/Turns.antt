@@ -19,7 +19,7 @@ use Rattle.document_typing.specs.TypedDefinitions.{Typed, told, faults_if, based
 use Rattle.document_typing.proofs.KeptFirsts.{kept-none, kept-seen, kept-new, first-none, first-seen, first-new, under-made, is_some-made}
 
 module _ {P : Type 0} (m : Meanings) (beside : Bool) where
-  -- ---- what is told of a definition, which stands behind these
+  -- ---- what is told of a definition that comes after these
 
   abbrev pub root_faults : P → OperationTree P → Bool → Option (List ℕ) → List (TypingFault P)
   root_faults p o known root = option_map_or (λ t. if known then [] else set_faults m o.selections t) root (typing_fault_at p (UndefinedRootOperation o.operation_type) ∷ [])

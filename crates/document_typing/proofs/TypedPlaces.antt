@@ -16,7 +16,7 @@ use Rattle.document_typing.specs.TypedDefinitions.{based}
 use Rattle.document_typing.proofs.SetFailures.{if-told}
 use Rattle.document_typing.proofs.DocumentFailures.{first-found, kept-found, one-anonymous, one-named, one-fragment}
 
--- what stands in a list of things made of others
+-- each element of a mapped list comes from one of the list
 pub from_map : {X F : Type 0} (made : X → F) (xs : List X) (f : F) → Contains (map made xs) f → (x : X) × (Contains xs x × (f ≡ made x))
 from_map made [] f h = absurd (not_in_nil f h)
 from_map made (x ∷ xs) f h = elim (Contains-cons (made x) (map made xs) f h) [

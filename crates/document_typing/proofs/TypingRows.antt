@@ -36,7 +36,7 @@ missing-faults = refl
 typename-kept : kept_all sample (set_of (field 2 (codes "__typename") [] ∷ [])) (codes "Query") ≡ MeantField 2 (unplaced_field_definition typename_field.it) (head 2 (codes "__typename")) (set_on (codes "String") []) ∷ []
 typename-kept = refl
 
--- a union has `__typename` alone, whatever its members have; an object may stand without a set
+-- a union has `__typename` alone, whatever its members have; a field of an object type may have no set
 union-faults : set_faults sample (set_of (field 2 (codes "u") (field 6 (codes "__typename") [] ∷ field 20 (codes "a") [] ∷ []) ∷ field 30 (codes "u") [] ∷ [])) (codes "Query") ≡ typing_fault_at 20 (UndefinedField (codes "U") (codes "a")) ∷ []
 union-faults = refl
 

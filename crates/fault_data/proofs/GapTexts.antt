@@ -1,4 +1,4 @@
--- The texts of gaps: of a type that stands alone, and of types and values without their places.
+-- The texts of gaps: of a type on its own, and of types and values without their places.
 use Rattle.std.proofs.Common.{◌≡◌, ℕ, List, [], ◌∷◌, refl, ap, append-nil}
 use Rattle.std.specs.Prelude.{codes}
 use Rattle.tree_operations.specs.in_literals.Joined.{joined}

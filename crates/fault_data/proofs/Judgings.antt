@@ -1,4 +1,4 @@
--- What rules read of a schema, and where it stands.
+-- What rules read of a schema, and where it is.
 use Rattle.std.proofs.Common.{◌≡◌, ℕ, List, map, refl, sym, ap, ◌∙◌, Option, None, Some}
 use Rattle.std.specs.List.{list_any, find}
 use Rattle.std.specs.Option.{option_map}
@@ -68,7 +68,7 @@ inner_place (NonNullNamedTree n) = refl
 inner_place (ListTree t) = inner_place t
 inner_place (NonNullListTree t) = inner_place t
 
--- what stands under names, once it is found
+-- what is under names, once it is found
 module _ (s : SchemaTree Place) (n : List ℕ) (t : SchemaType Place) (there : under n s.types ≡ Some t) where
   module _ (m : List ℕ) where
     pub field_there : (g : Given Place (Placed Place (FieldDefinitionTree Place))) → under m t.fields ≡ Some g → field_at s n m ≡ Some g.it

@@ -1,5 +1,5 @@
 -- Texts that are cut one by one.
---     Going      so many texts are cut, and these bytes and ends are left: what is left is cut exactly where the whole is
+--     Going      so many texts are cut, and these bytes and ends are left: what is left is cut exactly when the whole is
 use Rattle.std.proofs.Common.{◌≡◌, ◌≢◌, ℕ, suc, ◌+◌, ◌==◌, true, false, ◌-◌, ◌<◌, ◌≤◌, List, [], ◌∷◌, ◌++◌, length, drop, map, take, get_or, Bor, refl, sym, ap, ◌∙◌, subst, arith}
 use Rattle.std.specs.List.{concat}
 use Rattle.std.proofs.Math.Seq.{drop-append_seam, take-append_seam, drop-cons}
@@ -55,7 +55,7 @@ module _ (bytes ends : List ℕ) where
         let (t, (ts, (ends_there, (cut, ends_later)))) = first_text end later first others.0 others.1 in
         omega (arith, before, ends_there)
 
-    -- an end that is behind the bytes
+    -- an end past the bytes
     pub none_behind : (end : ℕ) (later : List ℕ) → left ≡ end ∷ later → length rest < end - start → (texts : List (List ℕ)) → IsCut bytes ends texts → ⊥
     none_behind end later first behind texts is =
         let others = going.there texts is in
@@ -63,7 +63,7 @@ module _ (bytes ends : List ℕ) where
         let long : length rest ≡ length t + length (concat ts) = ap length cut ∙ length-append t (concat ts) in
         omega (arith, behind, ends_there, long)
 
-    -- bytes that are behind the last end
+    -- bytes after the last end
     pub none_over : left ≡ [] → rest ≢ [] → (texts : List (List ℕ)) → IsCut bytes ends texts → ⊥
     none_over last over texts is = let others = going.there texts is in no_text others.0 others.1
       where

@@ -6,6 +6,8 @@
 //!
 //! The trees are in `tree_type_members`, `tree_composite_types`, `tree_input_types` and
 //! `tree_definitions`; here are the laws of equality, and the names of everything that a caller needs.
+//!
+//! Begin with `laws.rt`, and with `specs/DefinitionTree.antt` and `definition.rt` of `tree_definitions`.
 #![tactic(auto)]
 
 pub mod laws;

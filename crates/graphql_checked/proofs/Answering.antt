@@ -54,7 +54,7 @@ schemas_answer terms texts text layout (Faults list) (Err fault) h of = of
 schemas_answer terms texts text layout Memory answer h of = rw of refl
 schemas_answer terms texts text layout Failed answer h of = absurd h
 
--- want of memory is answered as it is
+-- out of memory is answered as it is
 pub memory_answer : (refusal : Refusal) (answer : Result (Outcome × Parts) RunFault) → refusal ≡ Memory → IsAnswerOfRefusal refusal answer → AcceptsOrFails answer
 memory_answer (Faults list) answer is of = absurd cc
 memory_answer Memory answer is of = rw of tt

@@ -90,7 +90,7 @@ besides_some schema document f (inl h) = inl h
 besides_some schema document f (inr (inl h)) = inr (inr (inl h))
 besides_some schema document f (inr (inr h)) = inr (inr (inr (inl h)))
 
--- some rule of typing is broken, and behind that stands what breaks rules that stay broken, of the breaches that are found
+-- some rule of typing is broken; after its faults come those of the breaches found whose rules stay broken
 pub refuses_typing : (schema : SchemaTree Place) (tree : Tree) (document : MeantDocument Place) (found faults : List AnyFault) → TypesDocument schema tree document found → found ≢ []
     → (breaches : List PlacedDocumentFault) → faults ≡ found ++ map of_document (filter lasts breaches)
     → TellsUnlessFull (FailsBesideMerging schema document) (HasLasting schema document) breaches → LastsRightly schema document breaches → RefusesTyping schema tree faults

@@ -47,7 +47,7 @@ pub texts_all : {T : Type 0} (f : T → List ℕ) (xs : List T) (i : ℕ) (terms
     → checker ≡ record { terms = terms; texts = map f xs; failed = false }
 texts_all f xs i terms checker outside before = before ∙ ap (λ l. given terms (map f l)) (take_all i xs outside)
 
--- a checker that runs refuses a text for want of memory alone
+-- a checker that has not failed refuses a text only if out of memory
 pub add_refusal : (old new : CheckerValue) (refusal : Refusal) → old.failed ≡ false → IsCheckerAddRefusal old new refusal → refusal ≡ Memory
 add_refusal old new (Faults list) runs h = absurd h
 add_refusal old new Memory runs h = refl
@@ -123,7 +123,7 @@ schemas_verdict terms texts text (Faults list) h = inl h
 schemas_verdict terms texts text Memory h = tt
 schemas_verdict terms texts text Failed h = tt
 
--- want of memory is told as it is
+-- out of memory is told as it is
 pub memory_verdict : (refusal : Refusal) (verdict : Result Verdict CheckError) → verdict ≡ refusal_verdict refusal → refusal ≡ Memory → (verdict ≡ Ok Accepted) ⊎ (verdict ≡ Err error.Memory)
 memory_verdict refusal verdict is memory = inr (is ∙ ap refusal_verdict memory)
 

@@ -2,6 +2,8 @@
 //!
 //! Its words are `[--indent line|two|four|tab] [--nesting N] DOCUMENT SCHEMA...`. The libraries read them and do
 //! the work: this file opens the files, and tells of faults.
+//!
+//! Begin with `main.rt`, from its end; then read `settings.rt` of `checker_calls` and `run_texts.rt` of `graphql_checked`.
 #![tactic(auto)]
 
 ghost use Rattle.std.specs.Prelude.{◌≡◌, ◌≢◌, false, IfOk};

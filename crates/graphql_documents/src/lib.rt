@@ -9,6 +9,8 @@
 //! Calls that need more than the crate of their type has are in traits, one for each type that has such calls:
 //! [`SelectionSetExt`], [`OperationExt`], [`FieldExt`], [`FragmentSpreadExt`], [`ExecutableDocumentExt`] and
 //! [`FieldSetExt`].
+//!
+//! Begin with `selection_set.rt` and `specs/NewFields.antt`, then `document.rt` and `operation.rt`.
 #![tactic(auto)]
 
 mod document;

@@ -12,7 +12,7 @@ use Rattle.rule_definitions.specs.Room.{most_told}
 use Rattle.graphql_faults.specs.Added.{BeginsAs, AddsNew, TellsAll}
 
 module _ {A : Type 0} where
-  -- ---- one more behind
+  -- ---- one more at the end
   pub push_cases : (xs : List A) (x : A) (i : ℕ) (y : A) → slice_get (xs ++ x ∷ []) i ≡ Some y → (slice_get xs i ≡ Some y) ⊎ ((i ≡ length xs) × (y ≡ x))
   push_cases xs x i y h =
       let within : i < length (xs ++ x ∷ []) = slice_get_within (xs ++ x ∷ []) i y h in

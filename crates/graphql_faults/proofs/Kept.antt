@@ -1,4 +1,4 @@
--- What stands each once in a list that begins with none.
+-- Lists that begin empty and have each fault once.
 use Rattle.std.proofs.Common.{◌≡◌, ◌≤◌, ◌<◌, inl, inr, List, [], length, refl, sym, subst, Contains, arith}
 use Rattle.rule_cycle_search.specs.Paths.{HasNoRepeat}
 use Rattle.rule_cycle_search.proofs.Lists.{not_in_nil}

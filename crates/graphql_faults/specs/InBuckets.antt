@@ -1,14 +1,8 @@
--- Private: leads to `AddsNew`. The buckets in which a fault is looked for: places that begin at equal offsets modulo 256 share one.
-use Rattle.std.specs.Prelude.{◌≡◌, ◌≢◌, ◌<◌, ◌≤◌, ◌%◌, ℕ, suc, List, length, get_or, slice_get, None, Some}
-use Rattle.graphql_names.specs.Placed.{Place}
+-- Private: leads to `AddsNew`. Where the faults of a list are, by their buckets.
+use Rattle.std.specs.Prelude.{◌≡◌, ◌≢◌, ◌<◌, ◌≤◌, ℕ, suc, List, length, get_or, slice_get, Some}
 use Rattle.graphql_faults.specs.declared.buckets.Buckets.{Buckets}
 
--- the bucket of what is at a place
-abbrev pub place_bucket : Place → ℕ
-place_bucket None = 0
-place_bucket (Some s) = s.offset % 256
-
--- `end` is one more than the greatest index before `n` at which `b` stands in the list, or 0 if there is none
+-- `end` is one more than the greatest index below `n` at which the list has `b`, or 0 if there is none
 pub record IsEndOf (bs : List ℕ) (b n end : ℕ) : Type 0 where
   pub within : end ≤ n
   pub last : (k : ℕ) → end ≤ k → k < n → slice_get bs k ≢ Some b

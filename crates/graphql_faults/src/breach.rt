@@ -18,7 +18,7 @@ pub fn is_same_breach(one: &BuildError, other: &BuildError) -> bool
 impl Told for (Option<SourceSpan>, BuildError) {
     ghost use Rattle.graphql_names.specs.Placed.{Place};
     ghost use Rattle.rule_document_definitions.specs.DocumentFaults.{Broken};
-    ghost use Rattle.graphql_faults.specs.InBuckets.{place_bucket};
+    ghost use Rattle.graphql_faults.specs.PlaceBucket.{place_bucket};
     ghost use Rattle.graphql_faults.specs.PlacedBreach.{placed_breach};
 
     ghost Plain = { Broken Place };

@@ -1,6 +1,7 @@
 //! Where the faults of a list are, by where their places begin.
 ghost use Rattle.std.specs.Prelude.{◌≡◌, ◌≢◌, ◌<◌, ◌∷◌, ◌++◌, [], ℕ, List, length, map, slice_get, vec_len, Some, Contains, IfNone, IfOk, IfSome, OnOk};
-ghost use Rattle.graphql_faults.specs.InBuckets.{place_bucket, AreRight};
+ghost use Rattle.graphql_faults.specs.InBuckets.{AreRight};
+ghost use Rattle.graphql_faults.specs.PlaceBucket.{place_bucket};
 
 use crate::told::Told;
 use graphql_names::SourceSpan;

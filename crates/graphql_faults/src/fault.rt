@@ -20,7 +20,7 @@ impl Told for Fault {
     ghost use Rattle.std.specs.Prelude.{List};
     ghost use Rattle.graphql_names.specs.Placed.{Place};
     ghost use Rattle.rule_definitions.specs.Faults.{FaultAt};
-    ghost use Rattle.graphql_faults.specs.InBuckets.{place_bucket};
+    ghost use Rattle.graphql_faults.specs.PlaceBucket.{place_bucket};
 
     ghost Plain = { FaultAt Place (List Place) };
 

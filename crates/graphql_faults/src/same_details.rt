@@ -12,7 +12,7 @@ use graphql_names::SourceSpan;
 impl Told for (Option<SourceSpan>, Details) {
     ghost use Rattle.std.specs.Prelude.{List, Option};
     ghost use Rattle.graphql_names.specs.Placed.{Place};
-    ghost use Rattle.graphql_faults.specs.InBuckets.{place_bucket};
+    ghost use Rattle.graphql_faults.specs.PlaceBucket.{place_bucket};
     ghost use Rattle.graphql_faults.specs.DetailsTree.{DetailsTree};
     ghost use Rattle.graphql_faults.specs.ToldOfDocument.{told_at};
 

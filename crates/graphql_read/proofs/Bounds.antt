@@ -1,4 +1,4 @@
--- Where the tokens of a text stand, and when the bound of nesting is passed.
+-- Where the tokens of a text are, and when the bound of nesting is passed.
 use Rattle.std.proofs.Common.{◌≡◌, ℕ, ◌+◌, ◌-◌, ◌<◌, ◌≤◌, List, [], ◌∷◌, ◌++◌, length, take, drop, Option, Some, None, refl, sym, ap, subst, ◌∙◌, arith, append_assoc}
 use Rattle.std.proofs.lemmas.List.{length-drop}
 use Rattle.read_tokens.specs.Input.{Token, Ending, Ended, NoTokenAt}
@@ -16,7 +16,7 @@ use Rattle.graphql_read.specs.declared.fault.ReadFault.{ReadFault}
 use Rattle.graphql_read.specs.declared.fault.ReadFault.TheVariants.{Syntax, Nesting, Memory}
 use Rattle.graphql_read.proofs.Endings.{no_piece_of_none, same_piece, ends_whole}
 
--- ---- fronts of a text
+-- ---- prefixes of a text
 
 -- these tokens begin those
 abbrev Begin : List Token → List Token → Type 0
@@ -53,7 +53,7 @@ ends_front : (text : List ℕ) (tokens : List Token) (ending : Ending) → EndsA
 ends_front text tokens (Ended at) ends = ([], ends.1)
 ends_front text tokens (NoTokenAt at) ends = (drop at text, ends.0)
 
--- ---- where tokens stand
+-- ---- where tokens are
 
 -- a token begins before the end of the text
 token_within : (ps : List Piece) (text behind : List ℕ) (at : ℕ) (front rest : List Token) (token : Token) → ArePieces ps text behind → tokens_among ps text at ≡ front ++ token ∷ rest → token.offset < at + length text
@@ -102,7 +102,7 @@ module _ {A : Type 0} (symbol : Symbol A) (nesting : ℕ) (text : List ℕ) wher
   pub not_passed : (tree : A) → ReadsWithin symbol nesting text tree → NestingBound nesting text → ⊥
   not_passed tree d = within_all nesting text d.reads.tokens d.reads.lexed d.within
 
-  -- a fault that is due stands in the text
+  -- the place of a fault that is due is in the text
   pub stands_in : (fault : faults.Fault) → IsDue symbol nesting text fault → LiesIn text fault
   stands_in faults.Memory due = tt
   stands_in (faults.NoToken offset) due =
@@ -133,7 +133,7 @@ module _ {A : Type 0} (symbol : Symbol A) (nesting : ℕ) (text : List ℕ) wher
   passes_bound (Nesting offset) due = is_passed offset due
   passes_bound Memory due = tt
 
-  -- of a text that has a tree and does not pass the bound, no fault but want of memory is due
+  -- if the text has a tree and is within the bound, no fault but out of memory is due
   pub memory_alone : (fault : faults.Fault) → IsDue symbol nesting text fault → (tree : A) → HasTree symbol text tree → (NestingBound nesting text → ⊥) → fault ≡ faults.Memory
   memory_alone faults.Memory due tree r not = refl
   memory_alone (faults.NoToken offset) due tree r not =

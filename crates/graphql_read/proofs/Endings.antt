@@ -57,7 +57,7 @@ next_none : (ts : List Token) → next_of ts ≡ None → ts ≡ []
 next_none [] e = refl
 next_none (t ∷ ts) e = absurd cc
 
--- ---- a symbol and nothing behind it
+-- ---- a symbol and nothing after it
 
 -- at the end of all tokens
 pub record AtEnd (z : Input) (stuck : Bool) : Type 0 where

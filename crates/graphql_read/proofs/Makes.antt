@@ -111,7 +111,7 @@ maybe_unless {A} {r} is good none rr = record { holds = λ i x o known h. go i x
 pub maybe_any : {A : Type 0} {r : Rule A} {g : A → Bool} → Makes r g → Makes (optional r) (λ x. true)
 maybe_any rr = maybe (λ x. true) refl (anyway rr)
 
--- none or more, where a list stands
+-- a list that may be left out, as an empty one
 pub or_none : {A : Type 0} {r : Rule (List A)} (good : List A → Bool) → good [] ≡ true → Makes r good → Makes (optional r) (λ x. good (unwrap_or x []))
 or_none good none rr = maybe (λ x. good (unwrap_or x [])) none rr
 

@@ -105,7 +105,7 @@ module _ {P : Type 0} (m : Meaning P) where
     abbrev good : ValueTree P → Bool
     good v = value_writable c v
 
-    -- no variable stands in a constant value
+    -- a constant value has no variable
     variable_value_makes : (d : Const) → Makes (rule.unless d (VariableTree <$> g.variable m)) (λ v. value_writable d v)
     variable_value_makes true = never
     variable_value_makes false = mapped VariableTree variable_makes (λ x h. refl)

@@ -1,4 +1,4 @@
--- What rules make stands where it was read.
+-- What rules make is at the place where it was read.
 use Rattle.std.proofs.Common.{◌≡◌, ℕ, Bool, true, false, ◌&&◌, sym, subst}
 use Rattle.std.proofs.lemmas.Bool.{and_from}
 use Rattle.read_grammar.specs.Meaning.{Meaning, begin_of}

@@ -81,7 +81,7 @@ module _ {A : Type 0} {r : ℕ → Rule A} {p : ℕ → Parser A} {b e : Test} (
         go (inl h) = let k = of_ahead tree d in t.only_memory parses ends n i begins stop z tree (λ other. h) k.2 k.3
         go (inr h) = let k = of_ahead tree d in absurd (not_stuck z.ahead z.ending k.0 (same_ending h.1.0 z h.1.1 ∙ k.1) h.1.2.is)
 
-    -- where the text has a tree, a stop is want of memory
+    -- if the text has a tree, a parser stops only if out of memory
     pub memory : (stop : ParseError) (z : Input) (tree : A) → (stop ≢ Memory → all_of (p n) i ≡ Err (stop, z)) → ReadsWithin (DerivesAs r) n text tree → fault_of stop z ≡ faults.Memory
     memory Memory z tree at d = refl
     memory Unexpected z tree at d = stops Unexpected z tree (at (λ e. cc)) d

@@ -1,4 +1,4 @@
--- What stands behind what was told.
+-- The faults that are added after those told before.
 use Rattle.std.proofs.Common.{◌≡◌, ◌↔◌, List, [], ◌∷◌, ◌++◌, map, take, length, refl, sym, ap, subst, ◌∙◌, Contains, arith, append-nil}
 use Rattle.std.proofs.lemmas.List.{length-append, length-map, nil_from_length}
 use Rattle.graphql_faults.specs.DetailsTree.{of_rule, Telling}
@@ -9,7 +9,7 @@ use Rattle.rule_definitions.proofs.Room.{room_first, room_silent}
 use Rattle.rule_definitions.proofs.Adding.{Gains}
 use Rattle.graphql_rules.specs.Appends.{AppendsThese, Appends}
 
--- nothing stands behind what is as it was
+-- if the list is unchanged, nothing was added
 pub nothing_behind : (old new : Telling) (added : List PlacedFault) → AppendsThese old new added → new ≡ old → added ≡ []
 nothing_behind old new added behind same =
     let whole = ap length (sym behind ∙ same) in
@@ -24,16 +24,16 @@ behind_nothing old new added behind none = behind ∙ ap (λ l. old ++ map of_ru
 pub none_of_all : (all : List PlacedFault) → take most_told all ≡ [] → all ≡ []
 none_of_all all none = room_silent all (room_first all ∙ none)
 
--- what was told behind nothing are the first of all that was to be told
+-- what an empty list gained is the first part of all that there was to tell
 pub first_behind_nothing : (none new added : List PlacedFault) → none ≡ [] → new ≡ none ⊕ added → new ≡ take most_told added
 first_behind_nothing none new added e is = is ∙ ap (λ l. l ⊕ added) e ∙ room_first added
 
--- and stand behind what a longer list told
+-- and it is what a longer list gains
 pub appends_first : (old list : Telling) (none new : List PlacedFault) (R : PlacedFault → Type 0) → none ≡ [] → Gains none new R → AppendsThese old list new → Appends old list R
 appends_first old list none new R e (added, (is, tells)) behind = (added, (subst (AppendsThese old list) (first_behind_nothing none new added e is) behind, tells))
 
 module _ (old new : Telling) (Breaks : PlacedFault → Type 0) (appends : Appends old new Breaks) where
-  -- nothing is told exactly where no rule breaks
+  -- nothing is told exactly when no rule is broken
   pub silent_where_kept : (new ≡ old) ↔ ((f : PlacedFault) → Breaks f → ⊥)
   silent_where_kept = (
     λ same f b. not_in_nil f (subst (λ l. Contains l f) (none_of_all appends.0 (nothing_behind old new (take most_told appends.0) appends.1.0 same)) ((appends.1.1 f).1 b)),

@@ -1,4 +1,4 @@
--- Types that are put under names one after another are what a validated schema has, where no two stand under one name.
+-- Types that are put under names one after another are what a validated schema has, if no two have the same name.
 use Rattle.std.proofs.Common.{◌≡◌, ℕ, Bool, true, false, cond, not, ◌&&◌, ◌||◌, List, [], ◌∷◌, ◌++◌, map, filter, fold, bytes_eq, is_none, Option, None, Some, option_map, refl, sym, ap, subst, ◌∙◌, true≢false, if◌then◌else◌}
 use Rattle.std.specs.List.{list_any, IsDistinct, AllByRecursion, find}
 use Rattle.std.specs.Map.{keys_of, values_of}
@@ -75,7 +75,7 @@ module _ {X A : Type 0} (f : X → A) (k : NameValue) (v : X) where
       by true rest = refl
       by false rest = ap (λ l. (name_text e.0, f e.1) ∷ l) rest
 
--- none of these stands under the name
+-- none of these is under the name
 abbrev pub Absent : {A : Type 0} → List ℕ → Entries A → Type 0
 Absent n es = AllByRecursion (λ m. bytes_eq n m ≡ false) (keys_of es)
 
@@ -122,7 +122,7 @@ module _ (s : SchemaTree Place) where
   abbrev stays : List ℕ × SchemaType Place → Bool
   stays e = not (is_dropped s e)
 
-  -- behind others, each of another name
+  -- after others, each with a different name
   keep_all : (done es : Entries (SchemaType Place)) → IsDistinct bytes_eq (keys_of es) → AllByRecursion (λ n. Absent n done) (keys_of es) → fold (and_kept s) done es ≡ done ++ filter stays es
   unfolding IsDistinct
   keep_all done [] u h = sym (append-nil done)
@@ -163,7 +163,7 @@ module _ (s : SchemaTree Place) where
   abbrev scalars_back : List (List ℕ) → Entries (SchemaType Place)
   scalars_back ns = map built_in_scalar (filter (is_missing s) ns)
 
-  -- behind others, each missing one of another name
+  -- after others, each missing one with a different name
   put_all : (done : Entries (SchemaType Place)) (ns : List (List ℕ)) → IsDistinct bytes_eq ns → AllByRecursion (λ n. is_missing s n ≡ true → Absent n done) ns → fold (and_missing s) done ns ≡ done ++ scalars_back ns
   unfolding IsDistinct
   put_all done [] u h = sym (append-nil done)
@@ -186,7 +186,7 @@ module _ (s : SchemaTree Place) where
   unfolding IsDistinct
   five_apart = ((refl, (refl, (refl, (refl, tt)))), ((refl, (refl, (refl, tt))), ((refl, (refl, tt)), ((refl, tt), (tt, tt)))))
 
-  -- what is kept, and behind it what is put back
+  -- what is kept, then what is put back
   pub validated_of : fold (and_missing s) (kept s).types scalar_names ≡ (validated s).types
   validated_of = put_all (kept s).types scalar_names five_apart (each scalar_names)
     where

@@ -1,4 +1,4 @@
--- What is told of stands somewhere.
+-- What is told of has a place.
 use Rattle.std.proofs.Common.{◌≡◌, ℕ, ◌+◌, ◌-◌, ◌^◌, ◌<◌, ◌≤◌, ◌⊎◌, refl, sym, ap, subst, inl, inr, None, Some, zero, suc, arith}
 use Rattle.graphql_names.specs.Placed.{Place}
 use Rattle.graphql_names.specs.Places.{span_end, RecomposesBoth, Recomposes}
@@ -51,7 +51,7 @@ recomposed None end = (end, refl)
 recomposed (Some start) None = (Some start, refl)
 recomposed (Some start) (Some end) = let t = together start end in (Some t.0, t.1)
 
--- each spot stands at some place
+-- each spot has a place
 pub stands : (s : SchemaTree Place) (at : Spot) → (place : Place) × SpotIsAt s at place
 stands s (At a) = (spot_place s (At a), refl)
 stands s (HeadAt n) = recomposed (place_at s (DirectiveDefinitionAt n)) (place_at s (NameAt (DirectiveDefinitionAt n)))

@@ -21,11 +21,11 @@ use Rattle.graphql_rules.proofs.Stands.{stands}
 told_as : {A B : Judged → SchemaFault → Type 0} → ((j : Judged) (g : SchemaFault) → A j g → B j g) → (s : SchemaTree Place) (f : PlacedFault) → Told s A f → Told s B f
 told_as into s f t = (t.0, (into (judged s) t.0 t.1.0, t.1.1))
 
--- one check more behind those before it, which found nothing told
+-- one more check after those that began with nothing told
 behind : (all added now next : List PlacedFault) → now ≡ [] ⊕ all → next ≡ now ⊕ added → next ≡ [] ⊕ (all ++ added)
 behind all added now next so_far step = step ∙ ap (λ l. l ⊕ added) so_far ∙ room_both [] all added
 
--- what each check tells behind what the one before it left
+-- what each check adds to what the one before it left
 module _ (s : SchemaTree Place) (none types interfaces cycles uses : List PlacedFault) (is_none : none ≡ [])
     (types_added : Gains none types (Told s TypesBreak))
     (interfaces_added : Gains types interfaces (Told s InterfacesBreak))

@@ -69,7 +69,7 @@ names_listed (k ∷ ks) = ap (λ l. component_text k ∷ l) (names_listed ks)
 pub distinct_listed : (ks : List ComponentName) → IsDistinct (λ a b. bytes_eq a.name.text b.name.text) ks → IsDistinct bytes_eq (map given_name (map component_name_tree ks))
 distinct_listed ks h = subst (IsDistinct bytes_eq) (sym (names_listed ks)) (distinct_names (λ a b. bytes_eq a.name.text b.name.text) component_text (λ a b. refl) ks h)
 
--- where nothing stands nothing is repeated
+-- an empty list has no repeat
 pub nothing_twice : {X : Type 0} (eq : X → X → Bool) → IsDistinct eq []
 unfolding IsDistinct
 nothing_twice eq = tt

@@ -30,7 +30,7 @@ added n ks = by (list_any (same_text name_text n) ks) refl
     by true t = sym (ap (λ b. if b then map name_text ks else map name_text ks ++ n.text ∷ []) (sym (any_text n ks) ∙ t))
     by false t = map-append name_text ks (n ∷ []) ∙ sym (ap (λ b. if b then map name_text ks else map name_text ks ++ n.text ∷ []) (sym (any_text n ks) ∙ t))
 
--- a look-up by a name of the same text
+-- a lookup by a name with the same text
 same_get : {X S : Type 0} (m : IndexMap NameValue X S) (k i : NameValue) → k.text ≡ i.text → get (same_text name_text) m i ≡ get (same_text name_text) m k
 same_get m k i e = ap (λ t. lookup (λ (x : NameValue). bytes_eq t x.text) m.entries) (sym e)
 
@@ -52,7 +52,7 @@ noted m n k x o new named was is writes i = by (bytes_eq k.text i.text) refl
         ap (option_map implementers_tree) (writes i ∙ ap (λ b. cond b (Some new) (get (same_text name_text) m i)) t)
         ∙ sym (ap (λ b. if b then Some (and_type x.is_object x.type (unwrap_or (implementers_at m i) nobody)) else implementers_at m i) (ap (λ t. bytes_eq t i.text) named ∙ t))
 
--- the implementers that stand there, or nobody
+-- the implementers that are there, or none
 pub or_nobody : (o : Option Implementers) (d : Implementers) → implementers_tree d ≡ nobody → implementers_tree (unwrap_or o d) ≡ unwrap_or (option_map implementers_tree o) nobody
 or_nobody None d e = e
 or_nobody (Some x) d e = refl

@@ -1,4 +1,4 @@
--- What look-ups in maps with names as keys find in the tree.
+-- What lookups in maps with names as keys find in the tree.
 use Rattle.std.proofs.Common.{◌≡◌, ℕ, Bool, true, false, List, [], ◌∷◌, map, Option, None, Some, refl, sym, ap, ◌∙◌, if◌then◌else◌, Bor, true≢false}
 use Rattle.std.specs.List.{find}
 use Rattle.std.specs.Map.{lookup, lookup_key}

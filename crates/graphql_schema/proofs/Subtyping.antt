@@ -60,7 +60,7 @@ flip x y = by (bytes_eq x y) refl (bytes_eq y x) refl
     by false e true f = sym e ∙ (bytes_eq-Decides x y).1 (sym ((bytes_eq-Decides y x).0 f))
     by false e false f = refl
 
--- ---- what stands under an interface
+-- ---- what is under an interface
 
 found_too : (t n : List ℕ) (ns : List (List ℕ)) → is_among n ns ≡ true → (b : Bool) → bytes_eq t n ≡ b → is_among t ns ≡ (is_among t ns || b)
 found_too t n ns h true e = let same : is_among t ns ≡ true = ap (λ x. is_among x ns) ((bytes_eq-Decides t n).0 e) ∙ h in same ∙ sym (ap (λ c. c || true) same)

@@ -1,4 +1,4 @@
--- The faults with data of a document: those of each operation, and behind them those of all fragments.
+-- The faults with data of a document: those of each operation, then those of all fragments.
 use Rattle.std.proofs.Common.{◌≡◌, ◌≤◌, ◌<◌, ◌⊎◌, inl, inr, ◌++◌, ℕ, List, [], take, length, refl, sym, ap, subst, ◌∙◌, Contains, arith}
 use Rattle.std.proofs.lemmas.Bool.{cases_lt}
 use Rattle.std.proofs.lemmas.List.Elements.{Contains-append_left, Contains-append_right, Contains-append_cases}
@@ -35,7 +35,7 @@ module _ (d : MeantDocument Place) where
 
   module _ (All Beside : MeantOperation Place → PlacedFault → Type 0) (beside : (o : MeantOperation Place) (f : PlacedFault) → Beside o f → All o f)
       (recursive : (o : MeantOperation Place) (f : PlacedFault) → RecursiveFragmentDefinitionAt d f places_alone o → All o f) where
-    -- those of the operations, and behind them those of the fragments
+    -- those of the operations, then those of the fragments
     both : (old new ops : List PlacedFault) → old ≡ [] ⊕ ops → ((f : PlacedFault) → Contains ops f → AtOperation d (λ o. Beside o f)) → HasAll (λ f. AtOperation d (λ o. Beside o f)) ops
         → FragmentsTold d old new → DataTold d All Beside new
     both old new ops first right has (unused, (lists, cycles)) =

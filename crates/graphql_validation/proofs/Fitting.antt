@@ -24,7 +24,7 @@ module _ {X : Type 0} (Fit : X → X → Type 0) {First : X → Type 0} {Next : 
 module _ {P : Type 0} where
   -- ---- a selection, and where it is more
 
-  -- y stands on the same type, and x is part of it
+  -- x is part of y, which is on the same type
   abbrev pub Fits : Standing P → Standing P → Type 0
   Fits x y = (q : Position) × ((m : MeantSelection P) × ((y ≡ record { position = q; parent = x.parent; it = m }) × IsPartOfSelection x.it m))
 
@@ -60,7 +60,7 @@ module _ {P : Type 0} where
   in_set h k (meant_set a ss) (meant_set b us) (is, part) x c =
       subst (λ z. (y : Standing P) × (Contains (stand k z 0 us) y × Fits x y)) (sym is) (among h k a 0 0 ss us part x c)
 
-  -- ---- what stands in a field or an inline fragment
+  -- ---- what is in a field or an inline fragment
 
   in_field : (p q : Position) (t : List ℕ) (m n : MeantSelection P) → IsPartOfSelection m n → (y : Standing P)
       → Present (field_there p t m) (λ f. Contains (standing_in f.position f.set) y)

@@ -108,7 +108,7 @@ module _ (s : Judged) (d : MeantDocument Place) (own : Telling) (given kept : Li
         ),
       )
 
-  -- the first of it, behind another list
+  -- the first faults of it, after another list
   module _ (old new : Telling) (is : new ≡ old ++ take most_told (map details_at kept)) where
     behind : new ≡ old ++ map of_document (take most_told merging_kept.0)
     behind = is ∙ ap (λ l. old ++ l) (ap (take most_told) merging_kept.1.0 ∙ take-map of_document most_told merging_kept.0)

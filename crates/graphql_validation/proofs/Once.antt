@@ -17,7 +17,7 @@ use Rattle.graphql_validation.specs.Operations.{DataFails, TellsData, DataTold, 
 use Rattle.graphql_validation.proofs.FirstTold.{full_faults, full_breaches}
 
 module _ {X : Type 0} where
-  -- nothing stands in it twice
+  -- nothing is in it twice
   abbrev Apart : List X → Type 0
   Apart [] = Unit {0}
   Apart (x ∷ xs) = (Contains xs x → ⊥) × Apart xs

@@ -1,4 +1,4 @@
--- What is told of an operation where other fragments stand in for those of its document.
+-- What is told of an operation if other fragments take the place of those of its document.
 use Rattle.std.proofs.Common.{◌≡◌, ◌↔◌, ◌⊎◌, ◌∙◌, ℕ, List, Option, None, Some, refl, sym, ap, subst, inl, inr}
 use Rattle.std.specs.Borrow.{Bor}
 use Rattle.std.specs.Prelude.{unwrap_or}

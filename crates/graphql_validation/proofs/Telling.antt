@@ -18,7 +18,7 @@ data_told : (faults : List PlacedFault) → map of_document (map OfData faults) 
 data_told [] = refl
 data_told (f ∷ fs) = ap (λ l. of_rule f ∷ l) (data_told fs)
 
--- one part behind another
+-- one part after another
 pub told_in_turn : (old one two new : Telling) (faults : List PlacedFault) (breaches : List (Broken Place)) (is_passed : Bool)
     → one ≡ old ++ map of_rule faults → two ≡ one ++ map (λ b. of_document (OfDocument b)) breaches → new ≡ two ++ map of_document (bound_told is_passed)
     → new ≡ old ++ map of_document (all_told faults breaches is_passed)
@@ -66,7 +66,7 @@ module _ (faults : List PlacedFault) (breaches : List (Broken Place)) (is_passed
     ]
   ]
 
--- the bound stands without a place
+-- the bound is told without a place
 pub bound_is : (is_passed : Bool) (f : PlacedDocumentFault) → Contains (bound_told is_passed) f → IsTrue is_passed × (f ≡ OfLimit None)
 bound_is false f c = absurd (not_in_nil f c)
 bound_is true f c = (refl, only (OfLimit None) f c)

@@ -21,7 +21,7 @@ module _ {X : Type 0} where
   pub in_rest : (x : X) (xs : List X) (y : X) → Contains xs y → Contains (x ∷ xs) y
   in_rest x xs y c = let i = index_found xs y c in index_given (x ∷ xs) (suc i.0) y i.1
 
-  -- none stands among those behind it
+  -- none is among those after it
   abbrev pub Apart : List X → Type 0
   Apart [] = Unit {0}
   Apart (x ∷ xs) = (Contains xs x → ⊥) × Apart xs
@@ -50,7 +50,7 @@ module _ {X : Type 0} where
     apart_append xs ys a.1 b (λ y c d. none y (in_rest x xs y c) d),
   )
 
-  -- a list without what stands at a place
+  -- a list without the element at an index
   abbrev without : List X → ℕ → List X
   without [] k = []
   without (y ∷ ys) zero = ys
@@ -80,7 +80,7 @@ module _ {X : Type 0} where
       as_long xs (without ys i.0) apart.1 (λ y c. stays ys i.0 x y i.1 (λ e. apart.0 (subst (Contains xs) e c)) (within y (in_rest x xs y c))) in
       omega (arith, less, length_without ys i.0 x i.1)
 
-  -- a list in which nothing stands twice is no longer than one that has all of it
+  -- a list without repeats is no longer than one that has all its members
   pub no_longer : (xs ys : List X) → HasNoRepeat xs → ((x : X) → Contains xs x → Contains ys x) → length xs ≤ length ys
   no_longer xs ys apart = as_long xs ys (apart_from xs apart)
 

@@ -133,7 +133,7 @@ all_under pairs keys above high bound is long two list c n k = elim (Contains-ap
   | inr b ↦ let v = of_map items_of keys list b in omega (arith, long v.0 v.1.0 n (subst (λ l. Contains l n) (sym v.1.1) k), is)
 ]
 
--- ---- lists of pairs, and longer ones behind them
+-- ---- lists of pairs, then longer ones
 
 module _ (pairs : List (ℕ × ℕ)) (longer : List (List ℕ)) where
   pub two_keep : (new : List (ℕ × ℕ)) (one other : ℕ) (is_new : Bool) → ((p : ℕ × ℕ) → Contains pairs p → p.1 ≤ p.0) → ((l : List ℕ) → Contains longer l → 3 ≤ length l)

@@ -14,7 +14,7 @@ use Rattle.rule_cycle_search.proofs.Lists.{not_in_nil, Contains-cons, Contains-f
 use Rattle.list_interner.specs.NumberLists.{HaveSame}
 use Rattle.list_interner.proofs.Standing.{in_map, of_map, same_order, same_trans, no_repeat_order}
 
--- each is below all behind it
+-- each is less than all after it
 abbrev Rising : List ℕ → Type 0
 Rising [] = Unit {0}
 Rising (x ∷ xs) = ((y : ℕ) → Contains xs y → x < y) × Rising xs
@@ -121,8 +121,8 @@ module _ (old new : List (Vec ℕ Global)) (v : Vec ℕ Global) where
   still_so Q (Ok b) all here is kept w c = more_so Q all here is w c
   still_so Q (Err e) all here is kept w c = all w (subst (λ l. Contains l w) kept c)
 
--- a list that is new is put last, and none that stood there has the same members, if nothing stands in it twice; one that is not new
--- stands there in another order
+-- a new list is put last, and none before it has the same members, if neither has a repeat; one that is not new is there already, in
+-- another order
 abbrev pub IsPutLast : List (List ℕ) → List ℕ → List ℕ → Bool → List (List ℕ) → Type 0
 IsPutLast old ns kept true new = ((list : List ℕ) → Contains old list → HasNoRepeat list → HasNoRepeat ns → HaveSame list ns → ⊥) × (new ≡ old ++ kept ∷ [])
 IsPutLast old ns kept false new = ((list : List ℕ) × (Contains old list × IsPermutation ns list)) × (new ≡ old)

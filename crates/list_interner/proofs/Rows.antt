@@ -179,7 +179,7 @@ rows_more from (r ∷ rows) (suc i) high low old new at lt is le is_out is_in sa
     (IsPermutation-sym (before ++ with_first high low ∷ behind) (with_first high low ∷ (before ++ behind)) (IsPermutation-middle before (with_first high low) behind))
     (IsPermutation-append_right before (with_first high low ∷ behind) (pairs_from (from + 1) (set rows i new)) rest)
 
--- a pair stands in the row of its greater number
+-- a pair is in the row of its greater number
 pub of_rows : (from : ℕ) (rows : List Bits) (d : Bits) (p : ℕ × ℕ) → Contains (pairs_from from rows) p
     → (i : ℕ) × ((from + i ≡ p.0) × ((i < length rows) × ((p.1 ≤ p.0) × (has (get_or rows i d) p.1 ≡ true))))
 of_rows from [] d p c = not_in_nil p c
@@ -203,7 +203,7 @@ rows_apart from (r ∷ rows) = apart_append (pairs_of_row from r) (pairs_from (f
 
 -- ---- pairs that are kept
 
--- each stands there once, with its greater number first
+-- each is there once, with its greater number first
 pub kept_once : (p : NumberPairs) → HasNoRepeat (pairs_kept p)
 kept_once p = from_apart (pairs_kept p) (rows_apart 0 p.rows.items)
 
@@ -313,7 +313,7 @@ in_below (suc m) p le lt = elim (cases_eq p.0 m) [
 pub few_pairs : (pairs : List (ℕ × ℕ)) → HasNoRepeat pairs → ((p : ℕ × ℕ) → Contains pairs p → p.1 ≤ p.0) → AreFew pairs
 few_pairs pairs once ordered = λ m below. omega (arith, no_longer pairs (pairs_below m) once (λ p c. in_below m p (ordered p c) (below p c).0), length_below m)
 
--- and in whatever order the two stand
+-- and whichever of its two numbers is first
 pub few_in_any_order : (pairs : List (ℕ × ℕ)) (m : ℕ) → HasNoRepeat pairs → ((p : ℕ × ℕ) → Contains pairs p → (p.0 < m) × (p.1 < m)) → length pairs ≤ m * m
 few_in_any_order pairs m once below =
     let all = range_with_len 0 m in

@@ -20,7 +20,7 @@ module _ {X : Type 0} where
   Comes old list true new = (kept : List X) × (HaveSame list kept × ((HasNoRepeat list → IsPermutation list kept) × IsPermutation (kept ∷ old) new))
   Comes old list false new = ((list ≡ []) ⊎ HasKnown old list) × (new ≡ old)
 
-  -- none of these lists has the same members, if nothing stands in them twice
+  -- none of these lists has the same members, if neither has a repeat
   abbrev pub IsUnlike : List (List X) → List X → Type 0
   IsUnlike lists list = (known : List X) → Contains lists known → HasNoRepeat known → HasNoRepeat list → HaveSame known list → ⊥
 

@@ -111,7 +111,7 @@ module _ (old new : Bits) (bound : ℕ) (same : HaveSameBits old new) where
 
 -- ---- sets of the program
 
--- each number stands there once
+-- each number is there once
 pub numbers_once : (s : NumberSet) → HasNoRepeat (numbers_in s)
 numbers_once s = no_repeat_before (with_first 0) (numbers_in s) (from_apart (map (with_first 0) (numbers_in s)) (row_apart 0 (has s.bits) 0 s.bound))
 

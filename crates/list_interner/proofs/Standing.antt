@@ -1,4 +1,4 @@
--- What stands at numbers of a table: lists of numbers and lists of what they number have the same members alike.
+-- What a table has at given numbers: lists of numbers have the same members exactly when the lists of what they number have.
 use Rattle.std.proofs.Common.{◌≡◌, ◌⊎◌, ◌∙◌, ℕ, suc, ◌<◌, Bool, true, List, [], ◌∷◌, ◌++◌, map, length, get_or, slice_get, Some, Contains, refl, sym, ap, subst, length-append, arith, inl, inr}
 use Rattle.std.specs.Option.{option_map}
 use Rattle.std.specs.List.{swap}
@@ -64,7 +64,7 @@ module _ {X : Type 0} where
       at : (n m : ℕ) → slice_get now n ≡ Some x → m < length l → get_or now n x ≡ get_or l m x → slice_get l m ≡ Some x
       at n m e low same = slice_get-get_or l m x low ∙ ap (λ y. Some y) (sym same ∙ get_or_from_slice_get now n x x e)
 
-      -- where what stands at n now stood before
+      -- where what is now at n was before
       from : (n : ℕ) → slice_get now n ≡ Some x → (n ≡ i) ⊎ (n ≡ i → ⊥) → (n ≡ j) ⊎ (n ≡ j → ⊥)
           → (m : ℕ) × ((slice_get l m ≡ Some x) × (((n ≡ i) × (m ≡ j)) ⊎ (((n ≡ j) × (m ≡ i)) ⊎ ((n ≡ i → ⊥) × ((n ≡ j → ⊥) × (m ≡ n))))))
       from n e (inl p) q = (j, (at n j e in_j (ap (λ m. get_or now m x) p ∙ is.0), inl (p, refl)))
@@ -90,11 +90,11 @@ module _ {X : Type 0} where
           ends m n e (inr (inr (u, (v, w)))) (inr (inl (g', w'))) = absurd (u (sym w ∙ e ∙ w'))
           ends m n e (inr (inr (u, (v, w)))) (inr (inr (u', (v', w')))) = sym w ∙ e ∙ w'
 
-  -- in another order nothing stands in it twice either
+  -- a list without repeats has none in another order
   pub no_repeat_order : (xs ys : List X) → IsPermutation xs ys → HasNoRepeat xs → HasNoRepeat ys
   no_repeat_order xs ys p apart = IsPermutation-keeps xs HasNoRepeat apart exchanged ys p
 
--- ---- what stands at places
+-- ---- what a table has at given indices
 
 none_within : (places : List ℕ) → ((n : ℕ) → Contains places n → n < 0) → places ≡ []
 none_within [] w = refl
@@ -106,7 +106,7 @@ module _ {X : Type 0} where
   place_has [] places n w c = absurd (omega (arith, w n c))
   place_has (x ∷ xs) places n w c = (get_or (x ∷ xs) n x, (slice_get-get_or (x ∷ xs) n x (w n c), in_map (λ m. get_or (x ∷ xs) m x) places n c))
 
-  -- and what stands there has a place
+  -- and what is there has an index
   pub has_place : (table : List X) (places : List ℕ) (y : X) → AreWithin table places → Contains (at_places table places) y → (n : ℕ) × (Contains places n × (slice_get table n ≡ Some y))
   has_place [] places y w c = not_in_nil y c
   has_place (x ∷ xs) places y w c =
@@ -137,12 +137,12 @@ module _ {X : Type 0} where
   places_order [] xs ys p = IsPermutation-refl []
   places_order (x ∷ rest) xs ys p = IsPermutation-map (λ n. get_or (x ∷ rest) n x) xs ys p
 
-  -- places of things of which none stands there twice
+  -- indices of things without a repeat have none
   pub places_apart : (table : List X) (places : List ℕ) → AreWithin table places → HasNoRepeat (at_places table places) → HasNoRepeat places
   places_apart [] places w apart = subst HasNoRepeat (sym (none_within places w)) (λ i j n h k. absurd (omega (arith, slice_get_within [] i n h)))
   places_apart (x ∷ xs) places w apart = no_repeat_before (λ n. get_or (x ∷ xs) n x) places apart
 
-  -- where the same things stand at two lists of places of a table in which nothing stands twice, the places are the same
+  -- if two lists of indices of a table without repeats lead to the same things, they have the same indices
   pub places_same : (table : List X) (xs ys : List ℕ) → HasNoRepeat table → AreWithin table xs → AreWithin table ys → HaveSame (at_places table xs) (at_places table ys) → HaveSame xs ys
   places_same table xs ys apart in_x in_y same n = (one xs ys in_x in_y (λ z. (same z).0), one ys xs in_y in_x (λ z. (same z).1))
     where
@@ -164,7 +164,7 @@ module _ {T X : Type 0} (eq : T → T → Bool) (content : T → X) (sound : (a 
     | inr r ↦ numbers_within table xs ms h.1 n r
   ]
 
-  -- what stands at the numbers is what the items say
+  -- what the table has at the numbers is what the items say
   pub numbered_so : (table items : List T) (numbers : List ℕ) → AreNumbersIn eq table items numbers → at_places (map content table) numbers ≡ map content items
   numbered_so [] [] [] h = refl
   numbered_so [] [] (n ∷ ns) h = absurd h
@@ -194,7 +194,7 @@ module _ {X : Type 0} where
   pub all_same : (table : List X) (old new : List (List ℕ)) → new ≡ old → AllWithin table old → AllWithin table new
   all_same table old new is all l c = all l (subst (λ ls. Contains ls l) is c)
 
-  -- in a table that is longer the same stands there
+  -- a longer table has the same there
   pub all_stay : (table more : List X) (lists : List (List ℕ)) → AllWithin table lists → map (at_places (table ++ more)) lists ≡ map (at_places table) lists
   all_stay table more [] all = refl
   all_stay table more (l ∷ ls) all = λ i. places_stay table more l (all l (first l ls)) i ∷ all_stay table more ls (λ k c. all k (rest l ls k c)) i
@@ -215,7 +215,7 @@ of_table eq table (x ∷ xs) (m ∷ ms) h n c = elim (Contains-cons m ms n c) [
   | inr r ↦ of_table eq table xs ms h.1 n r
 ]
 
--- ---- what is remembered of what stands at numbers
+-- ---- which lists of what is at given numbers are remembered
 
 module _ {X : Type 0} where
   -- one of these lists has the same members

@@ -11,7 +11,7 @@ zeros n k = elim (cases_lt k n) [
   | inr past ↦ get_or_past (replicate n 0) k 0 (omega (arith, past, length-replicate {A = ℕ} n 0))
 ]
 
--- no words, behind however many
+-- no words, after however many zeros
 pub no_words : (before k : ℕ) → get_or {A = ℕ} (replicate before 0 ++ []) k 0 ≡ 0
 no_words before k = ap (λ l. get_or l k 0) (append-nil (replicate before 0)) ∙ zeros before k
 

@@ -8,6 +8,8 @@
 //! remembered (`proofs/Found.antt`). `proofs/Rows.antt` and `proofs/Kept.antt` say what is kept after a call and how many
 //! pairs there can be, `proofs/Few.antt` how long lists can be in all, and `proofs/Standing.antt` how lists of numbers
 //! relate to lists of the things that they number.
+//!
+//! Begin with `lists.rt` and `specs/NumberLists.antt`, then `pairs.rt`.
 #![tactic(auto)]
 
 mod bits;

@@ -89,7 +89,7 @@ module _ {P : Type 0} (m : Meaning P) where
   unfolding v.any_value
   any_constant a b i h = rw h refl
 
-  -- a variable where none may stand
+  -- a variable where none may be
   pub value_constant : (n : ℕ) (i : Input) → next_is is_dollar (next i) ≡ true → v.value m true n i ≡ Err (Unexpected, i)
   unfolding v.value
   value_constant zero i h = any_constant _ _ i h

@@ -29,7 +29,7 @@ module _ {A : Type 0} where
   place_of (Ok z) = z.1
   place_of (Err f) = f.1
 
--- ---- what stands before
+-- ---- what comes before
 
 -- a text of the symbol begins with the tokens before these last ones
 pub record BeginsBefore {A : Type 0} (symbol : Symbol A) (tokens last : List Token) : Type 0 where
@@ -62,7 +62,7 @@ module _ {A : Type 0} {k : Bool} (r : ℕ → Rule A) (p : ℕ → Parser A) {f 
   pub before_stop : (stop : ParseError) (z : Input) → whole p n i ≡ Err (stop, z) → BeginsBefore (DerivesAs r) i.ahead z.ahead
   before_stop stop z at = subst (λ (y : Outcome A). BeginsBefore (DerivesAs r) i.ahead (place_of y).ahead) at before
 
-  -- a bracket too many may stand there
+  -- a bracket too many may be there
   nests : (o : Input) (y : Outcome A) → Goes k (r (suc n)) f i y → y ≡ Err (Nesting, o) → MayStand (DerivesAs r) i.ahead (begin_of o.ahead)
   nests o (Ok z) h e = absurd cc
   nests o (Err (Unexpected, z)) h e = let no : Unexpected ≡ Nesting = ap stop_of e in absurd cc

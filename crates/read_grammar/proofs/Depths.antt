@@ -1,4 +1,4 @@
--- The depth of tokens is the largest number, over their fronts, of opening brackets less closing ones.
+-- The depth of tokens is the largest number, over their prefixes, of opening brackets less closing ones.
 use Rattle.std.proofs.Common.{◌≡◌, ℕ, zero, suc, ◌+◌, ◌-◌, ◌≤◌, Bool, true, false, cond, List, [], ◌∷◌, ◌++◌, refl, ap, arith}
 use Rattle.read_tokens.specs.Input.{Token}
 use Rattle.read_grammar.specs.Depth.{is_opening, is_closing, depth}

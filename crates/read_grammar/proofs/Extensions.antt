@@ -1,4 +1,4 @@
--- Behind an extension without a part directives may stand, with which it has one.
+-- After an extension without a part there may be directives, which are then its part.
 use Rattle.std.proofs.Common.{◌≡◌, ℕ, suc, Bool, true, false, List, [], ◌∷◌, ◌++◌, Option, Some, None, not, ◌&&◌, unwrap_or, refl, sym, ap, subst, ◌∙◌, append_assoc, inl, inr, ◌⊎◌}
 use Rattle.graphql_names.specs.Placed.{Text}
 use Rattle.graphql_ast.specs.in_directives.DirectiveTree.{Directives, InputValues}
@@ -47,7 +47,7 @@ module _ {P : Type 0} (m : Meaning P) where
     moved = λ ts. (h.0, (h.1.0, (ts, refl, ap (λ (j : Input). put j ts) h.1.1.2)), h.2);
   }
 
-  -- what stands behind `extend`, before it is asked for a part
+  -- what follows `extend`, before it is asked whether it has a part
   abbrev pub inner : ℕ → Rule (KindTree P)
   inner n = SchemaKind <$> g.schema_extension m n ∣ g.type_definition m n
 
@@ -73,7 +73,7 @@ module _ {P : Type 0} (m : Meaning P) where
           (c.0, c.1, (b.0, l.1, l.2, (b.1, b.2)));
     }
 
-    -- behind a keyword and a name
+    -- after a keyword and a name
     named : (is : Terminal → Bool) (i m1 mid o : Input) (name : Text P) → rule.mark is i tt m1 → vg.name m m1 name mid → o ≡ mid
         → ((j w q : Input) (ds : Directives P) (z : Input) → rule.mark is j tt w → vg.name m w name q → given q ds z → no_brace (next z) ≡ true → (x : KindTree P) × inner (suc n) j x z × (has_part x ≡ true)) → Growing i o
     named is i m1 mid o name mk nm e build =

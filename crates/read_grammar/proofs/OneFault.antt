@@ -12,7 +12,7 @@ compare a zero = inr (omega arith)
 compare zero (suc b) = inl (omega arith)
 compare (suc a) (suc b) = elim (compare a b) [ inl h ↦ inl (omega (arith, h)) | inr h ↦ inr (omega (arith, h)) ]
 
--- behind two fronts of one list there stand the same tokens, where as many do
+-- after two prefixes of one list come the same tokens, if there are equally many
 same_behind : (a b c d : List Token) → a ++ b ≡ c ++ d → length b ≡ length d → b ≡ d
 same_behind a b c d e long =
     let all = ap (λ (ts : List Token). length ts) e in
@@ -24,7 +24,7 @@ offset_of (Ended at) = at
 offset_of (NoTokenAt at) = at
 
 module _ {A : Type 0} (symbol : Symbol A) (tokens : List Token) where
-  -- what begins a text does not go on behind what begins none
+  -- tokens that begin no text begin none with more tokens after them
   no_further : (front behind : List Token) → BeginsNone symbol front → BeginsSome symbol (front ++ behind) → ⊥
   no_further front behind none some = none (behind ++ some.0) some.1 (subst (λ (ts : List Token). symbol ts some.1) (append_assoc front behind some.0) some.2)
 

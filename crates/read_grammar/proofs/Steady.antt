@@ -1,4 +1,4 @@
--- A parser looks at no token behind the first that it does not take, and a higher limit changes nothing but a `Nesting`.
+-- A parser looks at no token after the first that it does not take, and a higher limit changes nothing but an error `Nesting`.
 use Rattle.std.proofs.Common.{◌≡◌, ℕ, ◌+◌, ◌<◌, ◌≤◌, Bool, true, false, cond, List, [], ◌∷◌, length, Some, None, Ok, Err, refl, sym, ap, ◌∙◌, arith, inl, inr, ◌⊎◌}
 use Rattle.read_tokens.specs.declared.terminal.Terminal.{Terminal}
 use Rattle.graphql_names.specs.Placed.{Placed}
@@ -11,7 +11,7 @@ use Rattle.read_grammar.specs.Reading as read
 use Rattle.read_grammar.proofs.Moves.{between_no}
 use Rattle.read_grammar.specs.Reading.{Outcome, Parser, and_then, ◌⊙◌, ◌<&>◌, refuse, too_deep, take_from, take, when, try, placed, between}
 
--- Where two lists of tokens part: behind the token b, after which come r and s, if fewer than `far` tokens are left there.
+-- Where two lists of tokens diverge: after the token b, where r and s follow, if fewer than `far` tokens are left there.
 pub record Fork : Type 0 where
   pub far : ℕ
   pub b : Token

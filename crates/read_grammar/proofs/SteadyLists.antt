@@ -1,4 +1,4 @@
--- A parser of lists looks at no token behind the first that it does not take, and a higher limit changes nothing but a `Nesting`.
+-- A parser of lists looks at no token after the first that it does not take, and a higher limit changes nothing but an error `Nesting`.
 use Rattle.std.proofs.Common.{◌≡◌, ℕ, zero, suc, ◌+◌, ◌≤◌, Bool, true, false, cond, List, [], ◌∷◌, length, None, Ok, Err, refl, ap, arith, inl, inr}
 use Rattle.read_tokens.specs.declared.terminal.Terminal.{Terminal}
 use Rattle.read_tokens.specs.Input.{Token, Input, next, next_of}

@@ -78,7 +78,7 @@ both : (a b : Bool) → also a b ≡ true → (a ≡ true) × (b ≡ true)
 both true b e = (refl, e)
 both false b e = absurd cc
 
--- the one behind so many, and the end where there are too few
+-- the one after `n` others, and the end if there are too few
 abbrev nth : List (Option Terminal) → ℕ → Option Terminal
 nth [] n = None
 nth (next ∷ others) zero = next

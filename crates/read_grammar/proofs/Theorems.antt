@@ -27,7 +27,7 @@ use Rattle.read_grammar.proofs.Parses.{Parses}
 use Rattle.read_grammar.proofs.Viable.{Viable}
 use Rattle.read_grammar.proofs.Before.{done_at, stop_at, stop_of, place_of, BeginsBefore, before_stop, may_nest}
 
--- ---- lists that part behind a token
+-- ---- lists that diverge after a token
 
 abbrev fork_at : Token → List Token → List Token → Fork
 fork_at b r s = record { far = suc (length r); b = b; r = r; s = s }
@@ -272,7 +272,7 @@ module _ {A : Type 0} {r : ℕ → Rule A} {p : ℕ → Parser A} {b e : Test} (
       says Nesting o at = (too_deep_at o (at (λ e. cc)), may_nest r p viable free n i begins o (at (λ e. cc)))
       says Memory o at = tt
 
-    -- Where a tree is derived within the limit, a stop is want of memory.
+    -- If a tree is derived within the limit, a parser stops only if out of memory.
     pub only_memory : (stop : ParseError) (o : Input) (tree : A) → (stop ≢ Memory → whole p n i ≡ Err (stop, o)) → DerivesAs r i.ahead tree → depth i.ahead ≤ n → fault_of stop o ≡ faults.Memory
     only_memory Unexpected o tree at d le = let k = only tree d le in let e : stop_at Unexpected o ≡ done_at tree k.0 = sym (at (λ e. cc)) ∙ k.1 in absurd cc
     only_memory Nesting o tree at d le = let k = only tree d le in let e : stop_at Nesting o ≡ done_at tree k.0 = sym (at (λ e. cc)) ∙ k.1 in absurd cc

@@ -1,4 +1,4 @@
--- Documents stop behind the front of a text.
+-- Where a parser of documents stops, the tokens before begin some document.
 use Rattle.std.proofs.Common.{ℕ, suc, true, false, refl, inl, inr, ◌⊎◌}
 use Rattle.graphql_ast.specs.in_definitions.DefinitionTree.{Operation, Fragment}
 use Rattle.graphql_ast.specs.in_directives.DirectiveTree.{DirectiveDefinitionTree}

@@ -1,4 +1,4 @@
--- Lists and what stands between brackets stop behind the front of a text.
+-- Where a parser of a list or of brackets stops, the tokens before begin some text of its rule.
 use Rattle.std.proofs.Common.{◌≡◌, ℕ, zero, suc, ◌≤◌, Bool, true, false, cond, List, [], ◌∷◌, ◌++◌, length, Ok, Err, refl, sym, ap, subst, ◌∙◌, arith, append_assoc, inl, inr}
 use Rattle.read_tokens.specs.declared.terminal.Terminal.{Terminal}
 use Rattle.read_grammar.specs.declared.parse_error.ParseError.{ParseError}
@@ -28,7 +28,7 @@ module _ {A : Type 0} {k : Bool} {r : Rule A} {p : Parser A} {f : Test} (begins 
   goes_on [] m o e rest (inr a) = inr (a ∙ ap next_of (sym e))
   goes_on (t ∷ ts) m o e rest a = inr (ap next_of (sym e))
 
-  -- behind an item the others stop: where that is at once, at a token that cannot follow, the item was the last
+  -- after an item the parser of the others stops: if at once, at a token that cannot follow, the item was the last
   stopped : (i : Input) (x : A) (m : Input) (taken : List Token) → i.ahead ≡ taken ++ m.ahead → ((rest : List Token) → Follows f (next m) rest → r (put i (taken ++ rest)) x (put m rest)) → (stop : ParseError) (o : Input) (others : List Token) → m.ahead ≡ others ++ o.ahead
       → ((rest : List Token) → f (next_of rest) ≡ true → (more : List Token) × (length rest ≤ length more) × Starts stop o.ahead rest more × Leaves (rule.many r) (put m (others ++ more)) rest) → Goes {A = List A} false (rule.some r) f i (Err (stop, o))
   stopped i x m taken e rr Unexpected o [] e' g =

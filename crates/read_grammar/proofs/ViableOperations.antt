@@ -1,4 +1,4 @@
--- Selections, operations and fragments stop behind the front of a text.
+-- Where a parser of selections, operations or fragments stops, the tokens before begin some text of its rule.
 use Rattle.std.proofs.Common.{◌≡◌, ℕ, zero, suc, Bool, true, false, cond, [], Option, Some, None, Ok, refl, sym, ap, subst, ◌∙◌, arith, inl, inr, ◌⊎◌}
 use Rattle.graphql_names.specs.Placed.{Text}
 use Rattle.graphql_ast.specs.in_directives.DirectiveTree.{Arguments, Directives}
@@ -42,7 +42,7 @@ module _ {P : Type 0} (m : Meaning P) where
   abbrev second : Text P → Parser (Option (Text P) × Text P)
   second first = (λ x. (Some first, x.1)) <&> read.mark is_colon ⊙ v.name m
 
-  -- what stands behind the first name
+  -- what follows the first name
   abbrev behind_name : Text P → Rule (Option (Text P) × Text P)
   behind_name first i y z = (renamed first i y z) ⊎ ((y ≡ (None, first)) × (z ≡ i))
 

@@ -1,4 +1,4 @@
--- A rule whose tree is tested stops behind the front of a text.
+-- Where the parser of a rule whose tree is tested stops, the tokens before begin some text of the rule.
 use Rattle.std.proofs.Common.{◌≡◌, ◌≤◌, Bool, true, false, cond, List, [], ◌∷◌, ◌++◌, length, Ok, Err, refl, sym, ap, subst, ◌∙◌, arith, append_assoc, inr}
 use Rattle.read_grammar.specs.declared.parse_error.ParseError.{ParseError}
 use Rattle.read_grammar.specs.declared.parse_error.ParseError.TheVariants.{Unexpected, Nesting, Memory}
@@ -11,7 +11,7 @@ use Rattle.read_grammar.proofs.Tests.{Test}
 use Rattle.read_grammar.proofs.Viable.{put, Leaves, Fills, Starts, Goes, Viable}
 use Rattle.std.proofs.lemmas.List.{append_cancel_left, length-append}
 
--- of two fronts of one list the longer goes on behind the shorter
+-- of two prefixes of one list the longer continues the shorter
 pub split : (a b c d : List Token) → a ++ b ≡ c ++ d → length d ≤ length b → (w : List Token) × (c ≡ a ++ w)
 split [] b c d e le = (c, refl)
 split (x ∷ a) b [] d e le = let len = ap (λ (ts : List Token). length ts) e in absurd (omega (arith, len, length-append a b))
@@ -27,7 +27,7 @@ split (x ∷ a) b (y ∷ c) d e le =
     head t [] = t
     head t (u ∷ ts) = u
 
--- Behind the tokens of a tree that does not pass there may stand more, with which one passes.
+-- After the tokens of a tree that does not pass there may be more, with which one passes.
 pub record Grows {A : Type 0} (passes : A → Bool) (r : Rule A) (f : Test) (i o : Input) : Type 0 where
   pub taken : List Token
   pub parts : i.ahead ≡ taken ++ o.ahead
@@ -40,7 +40,7 @@ module _ {A : Type 0} {k : Bool} {r : Rule A} {p : Parser A} {f : Test} (passes 
       let w = grows (put i (g.0 ++ o.ahead)) x (put o o.ahead) (g.3 o.ahead (inr refl)) e in
       (w.taken, g.1 ∙ w.parts, λ rest fo. let c = w.more rest fo in (c.0, c.1, tt, c.2))
 
-  -- what stands before the rest begins as the whole does, where the rest is shorter
+  -- what comes before the rest begins as the whole does, if the rest is shorter
   begins_split : (stop : ParseError) (ahead rest more s others : List Token) → more ≡ s ++ rest → length rest ≤ length others → Starts stop ahead rest more → Starts stop ahead rest (s ++ others)
   begins_split Nesting ahead rest more [] others e le h = let len = ap (λ (ts : List Token). length ts) (sym e ∙ h.4) in let k = h.5 in absurd (omega (arith, len))
   begins_split Nesting ahead rest more (x ∷ s) others e le h =

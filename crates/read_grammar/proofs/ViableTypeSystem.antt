@@ -1,4 +1,4 @@
--- The type system stops behind the front of a text.
+-- Where a parser of the type system stops, the tokens before begin some text of its rule.
 use Rattle.std.proofs.Common.{ℕ, zero, suc, true, refl}
 use Rattle.read_tokens.specs.declared.terminal.Terminal.TheVariants as k
 use Rattle.read_grammar.specs.Meaning.{Meaning, text_of}

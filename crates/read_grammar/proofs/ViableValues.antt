@@ -1,4 +1,4 @@
--- Values, arguments, directives and types stop behind the front of a text.
+-- Where a parser of values, arguments, directives or types stops, the tokens before begin some text of its rule.
 use Rattle.std.proofs.Common.{ℕ, zero, suc, true, false, refl, inl, inr}
 use Rattle.graphql_ast.specs.in_literals.ValueTree.{ValueTree, NullTree, EnumTree, VariableTree, StringTree, FloatTree, IntTree, BooleanTree, ListTree, ObjectTree}
 use Rattle.graphql_ast.specs.in_literals.TypeTree.{TypeTree, NamedTree}

@@ -44,7 +44,7 @@ no_leading_zero (d ∷ e ∷ ds) h = go (d == 48) refl
 natural_true : (ds : List ℕ) → Natural ds → is_natural ds ≡ true
 natural_true ds h = rw (digits_true ds h.digits, no_leading_zero ds h.lead) refl
 
--- a whole number that a sign or none stands before
+-- a whole number with a sign before it or none
 unsigned : (sign whole rest : List ℕ) → (sign ≡ []) ⊎ (sign ≡ 45 ∷ []) → Digits whole → without_minus (sign ++ (whole ++ rest)) ≡ whole ++ rest
 unsigned sign whole rest (inr e) h = rw e refl
 unsigned sign [] rest (inl e) h = let some = h.some in absurd (omega (arith, some))

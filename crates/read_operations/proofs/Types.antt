@@ -51,7 +51,7 @@ module _ {P : Type 0} (m : Meaning P) where
       go true e = refl
       go false e = rw (between_no is_open_bracket is_close_bracket (v.type m n) i e) refl
 
-  -- what is read behind the part that may stand alone
+  -- what is read after the part that may be the whole type
   abbrev behind : Outcome (TypeTree P) → Outcome (TypeTree P)
   behind y = and_then (and_then y (λ x k. and_then (try is_bang (mark is_bang) k) (λ z o. Ok ((x, z), o)))) (λ x o. Ok (type_of x, o))
 

@@ -1,4 +1,4 @@
--- Pieces that stand one behind the other.
+-- Pieces that follow one another.
 use Rattle.std.proofs.Common.{◌≡◌, ℕ, zero, suc, ◌+◌, ◌-◌, ◌<◌, ◌≤◌, List, [], ◌∷◌, length, drop, Option, Some, None, refl, ap, ◌∙◌, arith}
 use Rattle.read_tokens.specs.Bytes.{run_len}
 
@@ -15,7 +15,7 @@ run_left rule (suc n) (b ∷ bytes) within =
     let more : run_len rule n bytes ≡ n + run_len rule 0 (drop n bytes) = run_left rule n bytes within' in
     omega arith
 
--- one piece, and those behind it
+-- one piece, then the others
 pub run_step : (rule : List ℕ → Option ℕ) (bytes : List ℕ) (n : ℕ) → rule bytes ≡ Some n → 0 < n → n ≤ length bytes → run_len rule 0 bytes ≡ n + run_len rule 0 (drop n bytes)
 unfolding run_len
 run_step rule [] n found some within = absurd (omega arith)

@@ -1,4 +1,4 @@
--- A token begins and ends with a byte of ASCII, so that a text may be cut before it and behind it.
+-- A token begins and ends with a byte of ASCII, so that a text may be cut before it and after it.
 use Rattle.std.proofs.Common.{◌≡◌, ◌⊎◌, ℕ, suc, ◌+◌, ◌-◌, ◌<◌, ◌≤◌, Bool, true, false, cond, ◌||◌, ◌==◌, List, [], ◌∷◌, length, drop, get_or, Option, Some, None, sym, ap, ◌∙◌, subst, inl, inr, arith, one-add, eqb-true, leb-true, IsUtf8, IsCharBoundary}
 use Rattle.std.specs.List.{prefix_len}
 use Rattle.std.specs.Char.{is_ascii_alphabetic, is_ascii_digit}
@@ -62,7 +62,7 @@ run_ends p below (b ∷ bytes) h =
       last = subst (λ (i : ℕ). get_or (b ∷ bytes) i 0 < 128) (sym at) (below _ (prefix_len_passes p (b ∷ bytes) m 0 before));
     }
 
--- behind others
+-- after other bytes
 pub shifted : (m : ℕ) (bytes : List ℕ) (n : ℕ) → EndsAt (drop m bytes) n → EndsAt bytes (m + n)
 shifted m bytes n ends =
     let some = ends.some in
@@ -259,7 +259,7 @@ token_ends (b ∷ bytes) t h = elim (some_if (is_name_start b) (k.Name, prefix_l
   ]
 ]
 
--- a text may be cut before a token and behind it
+-- a text may be cut before a token and after it
 pub cut_before : (text : List ℕ) (at : ℕ) (t : TokenKind × ℕ) → token_at (drop at text) ≡ Some t → IsCharBoundary text at
 cut_before text at t h =
     let e = token_ends (drop at text) t h in
@@ -287,6 +287,6 @@ token_fits text at t h =
     let within = e.within in
     omega arith
 
--- behind a token a caller goes on
+-- after a token a caller goes on
 pub goes_on_behind : (text : List ℕ) (at : ℕ) (t : TokenKind × ℕ) → token_at (drop at text) ≡ Some t → IsUtf8 text → (0 < t.1) × IsCharBoundary text (at + t.1)
 goes_on_behind text at t h utf8 = ((token_ends (drop at text) t h).ends.some, cut_behind text at t h utf8)

@@ -1,4 +1,4 @@
--- Where a byte is found first, as how many bytes stand before it.
+-- Where a byte is found first: the number of bytes before it.
 use Rattle.std.proofs.Common.{◌≡◌, ℕ, zero, suc, ◌+◌, ◌<◌, Bool, true, false, not, ◌&&◌, ◌||◌, ◌==◌, List, [], ◌∷◌, length, get_or, drop, cond, Option, Some, None, refl, sym, ap, arith, one-add}
 use Rattle.std.specs.Prelude.{unwrap_or, is_some}
 use Rattle.std.specs.List.{prefix_len, list_any}

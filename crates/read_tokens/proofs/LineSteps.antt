@@ -22,7 +22,7 @@ indent_step line lines common = go (is_blank line)
     go true = refl
     go false = least_some common (indent_of line) (common_indent lines)
 
--- behind the last line nothing is left, and the empty text has one blank line
+-- after the last line nothing is left, and the empty text has one blank line
 pub common_step : (left line behind : List ℕ) (common : Option ℕ) → Cut left line behind → least_of (least_indent line common) (common_indent (lines_of behind)) ≡ least_of common (common_indent (lines_of left))
 unfolding lines_of
 common_step left line behind common (inl cut) = indent_step line (lines_of behind) common ∙ ap (λ (ls : List (List ℕ)). least_of common (common_indent ls)) (sym cut)
@@ -133,7 +133,7 @@ pub front_end : (k : ℕ) (text : List ℕ) → text ≡ [] → kept_from k (wit
 unfolding lines_of
 front_end k text e = ap (λ (bs : List ℕ). kept_from k (without_blank_front (lines_of bs))) e
 
--- the first line that is kept, and those behind it
+-- the first line that is kept, and those after it
 pub front_here : (k : ℕ) (text line behind : List ℕ) → Cut text line behind → is_blank line ≡ false
     → kept_from k (without_blank_front (lines_of text)) ≡ drop k line ++ further_lines k (without_blank_back (lines_of behind))
 unfolding lines_of
@@ -168,7 +168,7 @@ pub on_ok_then : {A E : Type 0} (r : Result A E) (P Q : Type 0) → OnOk r P →
 on_ok_then (Ok x) P Q h f = f h
 on_ok_then (Err e) P Q h f = h
 
--- what is added, and then what is behind
+-- what is added, then what comes after it
 pub added : (new old before front more all : List ℕ) → new ≡ old ++ more → old ≡ before ++ front → all ≡ front ++ more → new ≡ before ++ all
 added new old before front more all a b c =
     a ∙ ap (λ (xs : List ℕ). xs ++ more) b ∙ append_assoc before front more ∙ ap (λ (xs : List ℕ). before ++ xs) (sym c)

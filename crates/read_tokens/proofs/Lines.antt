@@ -108,7 +108,7 @@ white_below c h = elim (or_cases (c == 9) (c == 32) h) [
   | inr e ↦ let is : c ≡ 32 = eqb-true c 32 e in omega arith
 ]
 
--- behind some of the white space at the front
+-- after some of the white space at the beginning
 pub indent_boundary : (line : List ℕ) (n : ℕ) → n ≤ indent_of line → IsUtf8 line → IsCharBoundary line n
 indent_boundary line zero h utf8 = IsCharBoundary-start line utf8
 indent_boundary line (suc n) h utf8 =
@@ -175,7 +175,7 @@ blank_same k line fits = go (is_blank line) refl
     go true e = blank_dropped k line e
     go false e = other_dropped k line e (fits e)
 
--- the indent of the first line, and of those behind it
+-- the indent of the first line, and of those after it
 least_at_most : (k n : ℕ) (others : Option ℕ) → k ≤ least n others → (k ≤ n) × AtMost k others
 least_at_most k n None h = (h, tt)
 least_at_most k n (Some m) h = (omega arith, omega arith)

@@ -16,7 +16,7 @@ pub record Digits (ds : List ℕ) : Type 0 where
   pub some : 0 < length ds
   pub are : list_all is_ascii_digit ds ≡ true
 
--- digits, of which the first is 0 only where it stands alone
+-- digits, of which the first is 0 only if it is the only one
 pub record Natural (ds : List ℕ) : Type 0 where
   pub digits : Digits ds
   pub lead : begins_by is_zero ds ≡ true → length ds ≡ 1

@@ -55,7 +55,7 @@ none_common (line ∷ lines) h =
 
 -- ---- one line is not blank
 
--- behind blank lines one stands that is this value without its indent, and behind it are blank ones alone
+-- after blank lines there is one that is this value without its indent, and only blank ones follow
 record OneFull (lines : List (List ℕ)) (value : List ℕ) : Type 0 where
   pub line : List ℕ
   pub others : List (List ℕ)
@@ -203,7 +203,7 @@ later_value raw blank within h = sym (
     ∙ ap (λ (n : Option ℕ). kept_from (or_zero n) (without_blank_front (lines_of raw))) (common_behind raw blank)
     ∙ one_kept (lines_of raw) _ (one_full raw within h))
 
--- ---- where it stands in the raw value
+-- ---- where it is in the raw value
 
 space_below : (c : ℕ) → is_space c ≡ true → c < 128
 space_below c h = elim (or_cases (is_white_space c) (c == 10 || c == 13) h) [
@@ -253,7 +253,7 @@ later_piece raw f n front line within blank h utf8 =
     let value = later_value raw blank (subst (λ (m : ℕ). m < length raw) front within) (subst (λ (m : ℕ). behind_blank (drop m raw)) front h') in
     later_at raw f n (sym front) (sym line) (subst (λ (m : ℕ). line_in (drop m raw) ≡ block_string_value raw) (sym front) value) utf8
 
--- ---- where it stands in the token
+-- ---- where it is in the token
 
 between_len : (n : ℕ) (text : List ℕ) → n + n ≤ length text → length (between n text) ≡ length text - n - n
 between_len n text h =

@@ -65,7 +65,7 @@ rest_ignored zero at (b ∷ bytes) = go (ignored_at (b ∷ bytes)) refl (λ n. r
     go None e more = sym (ap (λ (o : Option ℕ). rest_by (piece_of o (token_at (b ∷ bytes))) at (b ∷ bytes) (λ n. rest_from (n - 1) (at + 1) bytes)) e) ∙ none_more at (b ∷ bytes)
     go (Some n) e more = more (n - 1) ∙ one_more at (run_len ignored_at (n - 1) bytes) b bytes
 
--- the tokens from an offset on are those from behind the ignored pieces there
+-- the tokens from an offset are those from the end of the ignored pieces there
 pub from_past : (text : List ℕ) (offset last : ℕ) → input_from last (past_ignored text offset) text ≡ input_from last offset text
 from_past text offset last =
     let r : ℕ = run_len ignored_at 0 (drop offset text) in
@@ -84,7 +84,7 @@ run_stops rule none zero (b ∷ bytes) = go (rule (b ∷ bytes)) refl (λ n. run
     go None e more = e
     go (Some n) e more = rw one-add (more (n - 1))
 
--- behind the ignored pieces none begins
+-- after the ignored pieces no other one begins
 pub nothing_ignored : (text : List ℕ) (offset : ℕ) → ignored_at (drop (past_ignored text offset) text) ≡ None
 unfolding ignored_at
 nothing_ignored text offset = ap ignored_at (sym (drop-drop (run_len ignored_at 0 (drop offset text)) offset text)) ∙ run_stops ignored_at refl 0 (drop offset text)
@@ -244,7 +244,7 @@ first_form text at last none = go (token_at (drop at text)) refl
 
 -- ---- the next token of a text
 
--- where no token begins, and the text goes on behind what is ignored
+-- where no token begins, but the text goes on after what is ignored
 pub nothing_there : (text : List ℕ) (offset at : ℕ) → at ≡ past_ignored text offset → at ≤ length text → (at ≡ length text → ⊥) → token_at (drop at text) ≡ None → NothingBegins (drop (past_ignored text offset) text) × (at ≡ past_ignored text offset)
 unfolding piece_at
 nothing_there text offset at place within not_end none =

@@ -38,7 +38,7 @@ replaced_left rule zero bytes = refl
 replaced_left rule (suc n) [] = refl
 replaced_left rule (suc n) (b ∷ bytes) = replaced_left rule n bytes
 
--- what begins the bytes, and what is behind it
+-- what begins the bytes, and what follows it
 pub replaced_step : (rule : List ℕ → List ℕ × ℕ) (b : ℕ) (bytes : List ℕ) → 0 < (rule (b ∷ bytes)).1 → replaced rule 0 (b ∷ bytes) ≡ (rule (b ∷ bytes)).0 ++ replaced rule 0 (drop (rule (b ∷ bytes)).1 (b ∷ bytes))
 unfolding replaced
 replaced_step rule b bytes some = ap (λ (rest : List ℕ). (rule (b ∷ bytes)).0 ++ rest) (replaced_left rule ((rule (b ∷ bytes)).1 - 1) bytes ∙ ap (replaced rule 0) (behind (rule (b ∷ bytes)).1 some))
@@ -50,7 +50,7 @@ replaced_step rule b bytes some = ap (λ (rest : List ℕ). (rule (b ∷ bytes))
 abbrev pub Keeps : (List ℕ → List ℕ × ℕ) → Type 0
 Keeps rule = (b : ℕ) (bytes : List ℕ) → is_plain b ≡ true → rule (b ∷ bytes) ≡ (b ∷ [], 1)
 
--- what stands before a backslash is kept
+-- what comes before a backslash is kept
 pub replaced_plain : (rule : List ℕ → List ℕ × ℕ) → Keeps rule → (bytes : List ℕ) → replaced rule 0 bytes ≡ take (prefix_len is_plain bytes) bytes ++ replaced rule 0 (drop (prefix_len is_plain bytes) bytes)
 unfolding replaced
 replaced_plain rule keeps [] = refl
@@ -63,7 +63,7 @@ replaced_plain rule keeps (b ∷ bytes) = go (is_plain b) refl (replaced_plain r
         one ∙ rw one-add (ap (λ (rest : List ℕ). b ∷ rest) more)
     go false e more = refl
 
--- behind what is plain the text ends, or a backslash follows
+-- after what is plain the text ends, or a backslash follows
 pub plain_ends : (bytes : List ℕ) → (drop (prefix_len is_plain bytes) bytes ≡ []) ⊎ (begins_with (92 ∷ []) (drop (prefix_len is_plain bytes) bytes) ≡ true)
 plain_ends [] = inl refl
 plain_ends (b ∷ bytes) = go (is_plain b) refl (plain_ends bytes)

@@ -5,6 +5,8 @@
 //! stands for, [`plain_string`] and [`plain_block`] where that is in the string's own text, if it is a part of it.
 //! The rules of tokens are in `specs/Tokens`, texts and their lists of tokens in `specs/Lex`, what a cursor shows in
 //! `specs/Input` and `specs/Cursor`.
+//!
+//! Begin with `specs/Tokens.antt` and `specs/Lex.antt`, then `next.rt` and `token_cursor.rt`.
 #![tactic(auto)]
 
 mod block_lines;

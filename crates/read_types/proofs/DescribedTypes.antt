@@ -24,7 +24,7 @@ module _ {P : Type 0} (m : Meaning P) where
   abbrev put : {A : Type 0} → A → P → Placed P A
   put x p = record { it = x; place = p }
 
-  -- the definition of what stands behind a description
+  -- the definition that follows a description
   abbrev finish : Input → Option (Text P) → Outcome Undescribed → Outcome (DefinitionTree P)
   finish i t w = and_then (and_then (and_then w (λ x z. done (t, x) z)) (λ x z. done (put x (place_between m i z)) z)) (λ x z. done (type_system_of x) z)
 

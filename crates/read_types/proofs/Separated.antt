@@ -12,12 +12,12 @@ use Rattle.read_types.specs.MemberSteps.{first}
 abbrev done : {A : Type 0} → A → Input → Outcome A
 done x z = Ok (x, z)
 
--- one more behind a mark looks at no token behind the first that it does not take
+-- one more after a mark looks at no token after the first that it does not take
 pub behind_steady : {A : Type 0} (is : Terminal → Bool) {p : Parser A} → Steady 1 p p → Steady 1 (behind is p) (behind is p)
 behind_steady is h = st.counted 1 (omega arith) (st.mapped (λ x. x.1) (st.seq (st.mark is) h))
 
 module _ {A : Type 0} (is : Terminal → Bool) (p : Parser A) where
-  -- what is read behind the first item
+  -- what is read after the first item
   abbrev pub others_from : Outcome A → Outcome (List A)
   others_from y = and_then y (λ x o. with_front (x ∷ []) (many is (behind is p) o))
 

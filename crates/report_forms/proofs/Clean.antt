@@ -48,7 +48,7 @@ pub clean-pushed : {T E : Type 0} (r : Result T E) (old line given new : List �
 clean-pushed (Ok x) old line given new o is h e = λ before. subst HasOnlyLineFeeds (sym (e ∙ ap (λ l. old ++ l) is)) (clean-both old line o before h)
 clean-pushed (Err x) old line given new o is h e = tt
 
--- one call behind another
+-- one call after another
 pub clean-then : {T E A B : Type 0} (C : Type 0) (r : Result T E) → (A → B) → OnOk r (B → C) → OnOk r (A → C)
 clean-then C (Ok x) f g = λ a. g (f a)
 clean-then C (Err x) f g = tt

@@ -16,7 +16,7 @@ none_here false c e = refl
 pub counted_here : (n : ℕ) (c : Bool) → c ≡ true → one_if (leb 0 n && c) ≡ 1
 counted_here n c e = ap (λ b. one_if (b && c)) (leb-zero n) ∙ ap one_if e
 
--- where none passes behind `mid`, as many pass as up to there
+-- if none passes after `mid`, as many pass as up to there
 pub how_many-none : (p : ℕ → Bool) (low mid high : ℕ) → mid ≤ high → ((k : ℕ) → mid < k → k ≤ high → p k ≡ false) → how_many p low high ≡ how_many p low mid
 how_many-none p low mid zero le none = let e : zero ≡ mid = omega arith in ap (λ n. how_many p low n) e
 how_many-none p low mid (suc n) le none = elim (leb_tells mid n) [
@@ -44,7 +44,7 @@ how_many-le p low mid (suc n) le = elim (leb_tells mid n) [
   | inr h ↦ let e : mid ≡ suc n = omega arith in subst (λ (m : ℕ). how_many p low m ≤ how_many p low (suc n)) (sym e) (omega arith)
 ]
 
--- those up to a place between, and those behind it
+-- those up to a place between, and those after it
 pub how_many-split : (p : ℕ → Bool) (low mid high : ℕ) → low ≤ mid → mid ≤ high → how_many p low high ≡ how_many p low mid + how_many p mid high
 how_many-split p low mid zero after before = let e : mid ≡ zero = omega arith in subst (λ (m : ℕ). how_many p low zero ≡ how_many p low m + how_many p m zero) (sym e) refl
 how_many-split p low mid (suc n) after before = elim (leb_tells mid n) [

@@ -33,7 +33,7 @@ last_start-is text (suc n) = elim (ends_line text (suc n)) as (λ b. ends_line t
   }
 ] refl
 
--- they end with the last, and before it stand as many as line terminators end
+-- they end with the last, and before it are as many as line terminators end
 pub record EndWithLast (text : List ℕ) (n : ℕ) : Type 0 where
   pub front : List ℕ
   pub split : starts_up_to text n ≡ front ++ last_start text n ∷ []
@@ -65,7 +65,7 @@ starts-le text (suc n) k d less = elim (ends_line text (suc n)) as (λ b. k < le
   | false ↦ λ within. omega (arith, starts-le text n k d within)
 ] less
 
--- those up to m are those up to n, and others behind n
+-- those up to m are those up to n, then others after n
 pub record Extend (text : List ℕ) (n m : ℕ) : Type 0 where
   pub rest : List ℕ
   pub split : starts_up_to text m ≡ starts_up_to text n ++ rest
@@ -177,7 +177,7 @@ found_line text place i within short point =
     at_seam [] ys = refl
     at_seam (x ∷ xs) ys = at_seam xs ys
 
--- behind the end of the text no line terminator and no character ends
+-- after the end of the text no line terminator and no character ends
 pub ends_line-beyond : (text : List ℕ) (k : ℕ) → length text < k → ends_line text k ≡ false
 ends_line-beyond text zero less = absurd (omega arith)
 ends_line-beyond text (suc k) less = rw (get_or_past text k 0 (omega arith)) refl
@@ -189,7 +189,7 @@ ends_character-beyond text (suc k) less = elim (leb_tells (suc k) (length text))
   | inr h ↦ ap (λ b. b && not (continues_character (get_or text (suc k) 0))) h.0
 ]
 
--- a place behind the end has the position of the end
+-- a place past the end has the position of the end
 pub IsPosition-beyond : (text : List ℕ) (place : ℕ) (position : Position) → length text ≤ place → IsPosition text (length text) position → IsPosition text place position
 IsPosition-beyond text place position beyond is =
     let start = is.column.1 in record {
@@ -205,7 +205,7 @@ IsPosition-beyond text place position beyond is =
       );
     }
 
--- behind which byte a line terminator ends
+-- after which byte a line terminator ends
 neither : (a b c : Bool) → a ≡ false → b ≡ false → (a || (b && c)) ≡ true → ⊥
 neither true b c p q e = cc
 neither false true c p q e = cc

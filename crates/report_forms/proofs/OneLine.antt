@@ -95,7 +95,7 @@ one_line-same bs ds e h = ap one_line e ∙ h
 pub one_line-number : (front : List ℕ) (n : ℕ) (back : List ℕ) → one_line front ≡ true → one_line back ≡ true → one_line (front ++ (decimal n ++ back)) ≡ true
 one_line-number front n back f b = one_line-append front (decimal n ++ back) f (one_line-append (decimal n) back (one_line-decimal n) b)
 
--- a text that is written behind another
+-- a text that is written after another
 pub one_line-written : {T E : Type 0} (r : Result T E) (old new more : List ℕ) → one_line old ≡ true → one_line more ≡ true → OnOk r (new ≡ old ++ more) → OnOk r (one_line new ≡ true)
 one_line-written (Ok x) old new more before h e = one_line-same new (old ++ more) e (one_line-append old more before h)
 one_line-written (Err x) old new more before h e = tt

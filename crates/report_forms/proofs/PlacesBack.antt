@@ -12,7 +12,7 @@ use Rattle.report_forms.proofs.LineStarts.{ends_line-beyond, ends_character-beyo
 pub counted_from_start : (text : List ℕ) (place start : ℕ) → IsLineStart text place start → how_many (ends_line text) 0 place ≡ how_many (ends_line text) 0 start
 counted_from_start text place start is = how_many-none (ends_line text) 0 start place is.before is.last
 
--- up to a start more of them end than up to what stands before it
+-- more line terminators end up to the start of a line than up to any place before it
 more_at_start : (text : List ℕ) (early late : ℕ) → early < late → (late ≢ 0 → ends_line text late ≡ true) → how_many (ends_line text) 0 early < how_many (ends_line text) 0 late
 more_at_start text early zero less begins = absurd (omega arith)
 more_at_start text early (suc n) less begins =
@@ -105,7 +105,7 @@ none_behind text start column reached place way not_yet from off k is = elim (le
     clash true p q = cc
     clash false p q = cc
 
--- behind the end no place has another column
+-- if the end of the text does not have the column, no place has it
 pub none_at_end : (text : List ℕ) (start column reached : ℕ) → IsOnTheWay text start column reached (length text) → reached ≢ column → (k : ℕ) → ¬ IsColumn text start column k
 none_at_end text start column reached way not_yet k is = elim (leb_tells (suc k) (length text)) [
   | inl h ↦ way.passed k (omega (arith, h.1)) is

@@ -22,7 +22,7 @@ seven a b c d e f g = three a b (c ++ (d ++ (e ++ (f ++ g)))) ∙ six (a ++ b) c
 eight : (a b c d e f g h : List ℕ) → a ++ (b ++ (c ++ (d ++ (e ++ (f ++ (g ++ h)))))) ≡ ((((((a ++ b) ++ c) ++ d) ++ e) ++ f) ++ g) ++ h
 eight a b c d e f g h = three a b (c ++ (d ++ (e ++ (f ++ (g ++ h))))) ∙ seven (a ++ b) c d e f g h
 
--- seven parts behind a text
+-- seven parts after a text
 pub seven_behind : (a b c d e f g h : List ℕ) → ((((((a ++ b) ++ c) ++ d) ++ e) ++ f) ++ g) ++ h ≡ a ++ ((((((b ++ c) ++ d) ++ e) ++ f) ++ g) ++ h)
 seven_behind a b c d e f g h = sym (eight a b c d e f g h) ∙ ap (λ l. a ++ l) (seven b c d e f g h)
 

@@ -35,7 +35,7 @@ block_reach : (text behind : List ℕ) → run_len block_character_len 0 (text +
 unfolding block_len
 block_reach text behind run = closed quotes text behind (run_len block_character_len 0 (text ++ (quotes ++ behind))) run
 
--- What is printed as a block string is one BlockString token, whatever is behind it.
+-- What is printed as a block string is one BlockString token, whatever follows it.
 pub block_is_token : (prefix : List ℕ) (level : ℕ) (text behind : List ℕ) → IsWhite prefix → IsToken k.BlockString (block_text prefix level text) behind
 block_is_token prefix level text behind white =
     let inside = written prefix level (text_lines text) in

@@ -38,7 +38,7 @@ use Rattle.round_trip.proofs.TypeDefinitions.{scalar_read, union_read, object_re
 use Rattle.round_trip.proofs.Schemas.{schema_read, schema_extension_read}
 use Rattle.round_trip.proofs.DirectiveDefinitions.{directive_with, directive_definition_read}
 
--- what ends words stands before a definition
+-- what may come before the end of a word may come before a definition
 before_definition : {A : Type 0} {r : Rule A} {says : A → Type 0} {a : List ℕ} → Printed r says ends_word a → Printed r says ends_definition a
 before_definition p = before_less ends_definition (λ behind fine. (and_parts (ends_word behind) (begins_definition behind) fine).0) p
 
@@ -60,7 +60,7 @@ empty_map : {A B : Type 0} (u : A → B) (xs : List A) → is_empty (map u xs) �
 empty_map u [] = refl
 empty_map u (x ∷ xs) = refl
 
--- lists that are the same, places aside, are empty together
+-- of two lists that are the same, ignoring places, both are empty or neither is
 empty_same : {A B C : Type 0} (u : A → C) (w : B → C) (xs : List A) (ys : List B) → map u xs ≡ map w ys → is_empty xs ≡ is_empty ys
 empty_same {A} {B} {C} u w xs ys e = sym (empty_map u xs) ∙ ap (λ (l : List C). is_empty l) e ∙ empty_map w ys
 
@@ -108,11 +108,11 @@ module _ {P Q : Type 0} where
 -- ---- what is read of a definition
 
 module _ {P : Type 0} where
-  -- behind a description, this definition, places aside
+  -- after a description, this definition, ignoring places
   abbrev IsDescribed : Option (Text (Unit {0})) → DefinitionTree (Unit {0}) → KindTree P ⊎ DirectiveDefinitionTree P → Type 0
   IsDescribed d t z = (p : P) (o : Option (Text P)) → option_map unplaced_text o ≡ d → unplaced_definition (described p o z) ≡ t
 
-  -- behind `extend`, this extension, places aside, and it has a part
+  -- after `extend`, this extension, ignoring places, and it has a part
   abbrev IsExtended : DefinitionTree (Unit {0}) → KindTree P → Type 0
   IsExtended t k = ((p : P) → unplaced_definition (extended p k) ≡ t) × (has_part k ≡ true)
 
@@ -120,11 +120,11 @@ one_described : {D T : Type 0} (make : D → T → DefinitionTree (Unit {0})) (d
 one_described make d e t u f g = rw f (rw g refl)
 
 module _ {P : Type 0} (m : Meaning P) (n : ℕ) where
-  -- what stands behind a description
+  -- what follows a description
   abbrev described_rule : Rule (KindTree P ⊎ DirectiveDefinitionTree P)
   described_rule = inl <$> (SchemaKind <$> schema_definition m n ∣ type_definition m n) ∣ inr <$> directive_definition m n
 
-  -- what stands behind `extend`
+  -- what follows `extend`
   abbrev extended_rule : Rule (KindTree P)
   extended_rule = SchemaKind <$> schema_extension m n ∣ type_definition m n
 
@@ -169,7 +169,7 @@ module _ {P : Type 0} (m : Meaning P) (n : ℕ) where
         right (ScalarKind <$> scalar_type m n) (right (ObjectKind <$> object_type m n) (right (InterfaceKind <$> interface_type m n) (right (UnionKind <$> union_type m n)
         (right (EnumKind <$> enum_type m n) p))))
 
-  -- behind `extend`
+  -- after `extend`
   behind_extend : {b : List ℕ} (t : DefinitionTree (Unit {0})) → Printed extended_rule (IsExtended t) ends_definition b → Printed (definition m n) (λ x. unplaced_definition x ≡ t) ends_definition (extend ++ b)
   unfolding definition type_system_extension words
   behind_extend t p =
@@ -212,7 +212,7 @@ module _ {P Q : Type 0} (m : Meaning P) (lits : LiteralsRead m.string) (prefix :
 
   -- ---- definitions and extensions
 
-  -- behind a description
+  -- after a description
   behind_description : {b : List ℕ} (d : Option (Text Q)) (t : DefinitionTree (Unit {0})) → Printed (described_rule m n) (IsDescribed (option_map unplaced_text d) t) ends_definition b
       → Printed (definition m n) (λ x. unplaced_definition x ≡ t) ends_definition (description_text prefix level d ++ b)
   unfolding definition type_system_definition
@@ -273,7 +273,7 @@ module _ {P Q : Type 0} (m : Meaning P) (lits : LiteralsRead m.string) (prefix :
       (mapped SchemaKind (IsExtended (unplaced_definition (ExtendSchema p s))) (λ x said. (λ q. ap (ExtendSchema tt) said, schema_part x s w2 said)) (schema_extension_read m lits prefix white s n level h w1 le)))
 
 module _ {P Q : Type 0} (m : Meaning P) (lits : LiteralsRead m.string) (prefix : Prefix) (white : is_white_prefix prefix ≡ true) where
-  -- each definition and extension, places aside
+  -- each definition and extension, ignoring places
   pub definition_read : (at_start : Bool) (d : DefinitionTree Q) (n level : ℕ) → definition_well_formed d ≡ true → definition_writable d ≡ true → definition_depth d ≤ n
       → Printed (definition m n) (λ x. unplaced_definition x ≡ unplaced_definition d) ends_definition (definition_text at_start prefix d level)
   unfolding definition joined

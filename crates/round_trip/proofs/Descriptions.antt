@@ -25,6 +25,6 @@ unfolding joined
 break_follows None level text behind = λ e. refl
 break_follows (Some prefix) level text behind = λ e. refl
 
--- The same with the end of its line behind it, which no quotation mark begins.
+-- The same, followed by the end of its line, which begins with no quotation mark.
 pub description_in_place : (prefix : Prefix) (level : ℕ) (text behind : List ℕ) → IsWhitePrefix prefix → IsReadAs (description_string prefix level text) text (break_text prefix level ++ behind)
 description_in_place prefix level text behind white = description_is_read prefix level text (break_text prefix level ++ behind) white (break_follows prefix level text behind)

@@ -1,4 +1,4 @@
--- Definitions of directives, behind their descriptions, are read as they are printed, under both kinds of layout.
+-- Definitions of directives, after their descriptions, are read as they are printed, under both kinds of layout.
 use Rattle.std.proofs.Common.{◌≡◌, ◌≤◌, ◌+◌, ℕ, Bool, true, false, List, [], ◌∷◌, ◌++◌, map, codes, Option, None, is_some, refl, sym, ap, ◌∙◌, append-nil, arith}
 use Rattle.graphql_names.specs.NameSyntax as names
 use Rattle.round_trip.specs.in_literals.Joined.{joined, further_text}

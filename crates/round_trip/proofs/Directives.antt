@@ -33,7 +33,7 @@ named_directive n xs = record { name = record { it = n; place = tt }; arguments 
 one_directive : (m n : List ℕ) (xs ys : Arguments (Unit {0})) → m ≡ n → xs ≡ ys → named_directive m xs ≡ named_directive n ys
 one_directive m n xs ys e f = rw e (rw f refl)
 
--- a default value, places aside
+-- a default value, ignoring places
 abbrev pub IsDefault : {P Q : Type 0} → Option (Placed Q (ValueTree Q)) → Option (Placed P (ValueTree P)) → Type 0
 IsDefault v o = option_map (unplaced_node unplaced_value) o ≡ option_map (unplaced_node unplaced_value) v
 

@@ -25,7 +25,7 @@ use Rattle.round_trip.proofs.Sequences.{as_text, ignored, no_more, more, one_or_
 use Rattle.round_trip.proofs.Lines.{start_ignored}
 use Rattle.round_trip.proofs.Definitions.{definition_read}
 
--- ---- what stands between definitions
+-- ---- what is between definitions
 
 between_ignored : (prefix : Prefix) → list_all is_ignored_byte (between_text prefix) ≡ true
 between_ignored None = refl
@@ -36,13 +36,13 @@ unfolding joined
 end_ignored None = refl
 end_ignored (Some prefix) = refl
 
--- the definitions behind the first, and the end
+-- the definitions after the first, and the end
 abbrev rest_text : {Q : Type 0} → Prefix → ℕ → List (DefinitionTree Q) → List ℕ
 rest_text prefix level ds = joined (map (next_definition_text prefix level) ds) ++ (end_text prefix ++ [])
 
 -- ---- what begins a definition
 
--- behind bytes that are ignored
+-- after bytes that are ignored
 begins_behind : (front behind : List ℕ) → list_all is_ignored_byte front ≡ true → begins_definition behind ≡ true → begins_definition (front ++ behind) ≡ true
 begins_behind [] behind h k = k
 begins_behind (b ∷ front) behind h k = let (h1, h2) = and_parts (is_ignored_byte b) (list_all is_ignored_byte front) h in rw h1 (begins_behind front behind h2 k)

@@ -1,4 +1,4 @@
--- Parts of definitions and of operations as whole texts: what may be behind each is the end, and tokens are of one tree.
+-- Parts of definitions and of operations as whole texts: the end may follow each, and its tokens have one tree.
 use Rattle.std.specs.Prelude.{ℕ, ◌≤◌}
 use Rattle.std.proofs.Common.{true, refl}
 use Rattle.read_operations.specs.in_grammar.Meaning.{Meaning}
@@ -119,7 +119,7 @@ module _ {P : Type 0} (m : Meaning P) where
   pub one_roots : OneTree (DerivesAs (λ n. optional_unless is_open_brace (roots m n)))
   one_roots = one_tree {p = λ n. try is_open_brace (y.roots m n)} (λ n h le. maybe_unless is_open_brace at_end refl refl (roots_parses m n h le)) refl
 
-  -- names behind a word or a sign, or none
+  -- names after a word or a sign, or none
   pub one_interfaces : OneTree (DerivesAs (λ n. optional (implements_interfaces m)))
   one_interfaces = one_tree {p = λ n. try is_implements (y.implements_interfaces m)} (λ n h le. maybe is_implements at_end refl refl refl (implements_interfaces_parses m)) refl
 

@@ -110,7 +110,7 @@ equal_variables =
     tells (λ n. optional (variable_definitions meaning n)) (nodes_of unplaced_variable_definition) variables_depth ends_word refl (one_variables meaning)
     variables_text variables_same (λ vs n h w le. variables_read meaning literals_read vs n h w le)
 
--- ---- what stands under a layout
+-- ---- texts under a layout
 
 -- of one selection alone
 abbrev first_of : SelectionTrees (Unit {0}) → SelectionTree (Unit {0}) → SelectionTree (Unit {0})
@@ -188,7 +188,7 @@ module _ (prefix : Prefix) (level : ℕ) (white : is_white_prefix prefix ≡ tru
       tells (λ n. optional_unless is_open_brace (roots meaning n)) (nodes_of unplaced_root) (λ rs. 1) ends_definition refl (one_roots meaning)
       (λ rs. set_text prefix level (texts_of root_text rs)) (λ rs. ap (set_text prefix level) (roots_set_same rs)) (λ rs n h w le. some_roots_read rs n h le)
 
--- ---- default values, and names behind a word or a sign
+-- ---- default values, and names after a word or a sign
 
 pub equal_default_value : TextTells (Option (Placed Place (ValueTree Place))) default_well_formed default_writable default_text (option_map (unplaced_node unplaced_value))
 equal_default_value =

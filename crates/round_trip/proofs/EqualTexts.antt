@@ -1,4 +1,4 @@
--- Two trees have one text only where they are equal, places aside, and there they have.
+-- Two trees have the same text exactly when they are equal, ignoring places.
 use Rattle.std.specs.Prelude.{◌↔◌}
 use Rattle.std.proofs.Common.{◌≡◌, ℕ, Bool, true, List, ◌∷◌, sym, ap, subst, ◌∙◌}
 use Rattle.std.specs.List.{list_all}

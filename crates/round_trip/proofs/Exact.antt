@@ -135,7 +135,7 @@ own_margin (x ∷ line) h = go (is_white_space x) refl h (own_margin line)
     go true e h more = rw one-add (more h)
     go false e h more = rw e refl
 
--- the line with the least indent stands at the margin without it
+-- without it the line with the least indent is at the margin
 margin_reached : (k : ℕ) (lines : Lines) → common_indent lines ≡ Some k → AnyAtMargin (map (drop k) lines)
 margin_reached k [] h = absurd cc
 margin_reached k (line ∷ lines) h = go (is_blank line) refl h (margin_reached k lines)

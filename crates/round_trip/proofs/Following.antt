@@ -1,4 +1,4 @@
--- Behind a definition stands no `{`, so that its last part may be left out.
+-- No `{` follows a definition, so that its last part may be left out.
 use Rattle.std.proofs.Common.{◌≡◌, ◌⊎◌, ℕ, ◌+◌, ◌==◌, Bool, true, false, cond, ◌||◌, List, [], ◌∷◌, map, take, drop, Option, Some, None, unwrap_or, refl, sym, ap, subst, ◌∙◌, inl, inr, eqb-true}
 use Rattle.std.specs.List.{prefix_len}
 use Rattle.std.proofs.lemmas.Bool.{and_parts, or_cases}
@@ -90,7 +90,7 @@ no_brace (b ∷ behind) at others (p ∷ ps) h are found = go (is_ignored_byte b
     ]
 
 module _ {A : Type 0} (r : Rule A) where
-  -- left out, where no `{` may be behind it
+  -- left out, if no `{` may follow it
   left_out_unless : Printed (optional_unless is_open_brace r) (λ o. o ≡ None) ends_definition []
   left_out_unless = record {
     stands = λ behind at others fine lexed.
@@ -114,7 +114,7 @@ given_unless is p = record {
 }
 
 module _ {P Q X Y Z : Type 0} (m : Meaning P) (r : Rule X) (u : X → Z) (w : Y → Z) (text : Y → Leveled) (prefix : Prefix) (white : is_white_prefix prefix ≡ true) where
-  -- { members }, behind something, and one at least
+  -- `{ members }` after something, with at least one member
   pub braced_nodes : (level : ℕ) (n : Placed Q Y) (ns : List (Placed Q Y)) → EachRead m r u w (λ y. text y (level + 1)) (n ∷ ns)
       → Printed (between is_open_brace (some (rule.placed m r)) is_close_brace) (AreNodes m r u w (λ y. text y (level + 1)) (n ∷ ns)) any (set_text prefix level (texts_of text (n ∷ ns)))
   braced_nodes level n ns all = in_braces prefix level (text n.it) (texts_of text ns) white (some_members m r u w text prefix white (level + 1) n ns all)

@@ -11,7 +11,7 @@ use Rattle.round_trip.proofs.Written.{indented}
 abbrev indented_all : List ℕ → List (List ℕ) → List (List ℕ)
 indented_all start lines = map (indented start) lines ++ start ∷ []
 
--- ---- one line behind white space
+-- ---- one line after white space
 
 white_indent : (white line : List ℕ) → list_all is_white_space white ≡ true → indent_of (white ++ line) ≡ length white + indent_of line
 white_indent [] line h = omega arith
@@ -62,7 +62,7 @@ least_own : (n : ℕ) (others : Option ℕ) → AtMost n others → least n othe
 least_own n None h = refl
 least_own n (Some m) h = omega arith
 
--- where a line stands at the margin, that white space is the common indent
+-- if a line is at the margin, that white space is the common indent
 pub common_is : (start : List ℕ) (lines : List (List ℕ)) → list_all is_white_space start ≡ true → list_any is_at_margin lines ≡ true → common_indent (indented_all start lines) ≡ Some (length start)
 common_is start [] h some = absurd cc
 common_is start (line ∷ lines) h some = go (is_at_margin line) refl some (common_is start lines h)
@@ -125,7 +125,7 @@ ends_removed lines first last = ap without_blank_back (front_kept lines ([] ∷ 
 abbrev behind_feeds : List (List ℕ) → List ℕ
 behind_feeds lines = flat_map (λ line. 10 ∷ line) lines
 
--- the lines of a text, all behind a line feed: it's one line feed more than the text
+-- the lines of a text, each after a line feed: one line feed more than the text
 feeds_are : (text : List ℕ) → behind_feeds (text_lines text) ≡ 10 ∷ text
 feeds_are [] = refl
 feeds_are (x ∷ text) = go (x == 10) refl (feeds_are text)

@@ -52,7 +52,7 @@ module _ {P : Type 0} (m : Meaning P) (lits : LiteralsRead m.string) (prefix : P
   }
 
 module _ {P Q : Type 0} (m : Meaning P) (lits : LiteralsRead m.string) (prefix : Prefix) (white : is_white_prefix prefix ≡ true) where
-  -- a description, and a rule behind it
+  -- a description, then a rule
   pub described_read : {B : Type 0} {s : Rule B} {tells : B → Type 0} {f : Follow} {b : List ℕ} (level : ℕ) (d : Option (Text Q)) → Printed s tells f b → Printed (optional (description m) · s) (λ x. IsAnyName (option_map unplaced_text d) x.0 × tells x.1) f (description_text prefix level d ++ b)
   unfolding joined
   described_read {B} {s} {tells} {f} {b} level None p =

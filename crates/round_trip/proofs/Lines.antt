@@ -1,4 +1,4 @@
--- What stands between the members of a list in braces, under both kinds of layout.
+-- What is between the members of a list in braces, under both kinds of layout.
 use Rattle.std.proofs.Common.{◌≡◌, ℕ, zero, suc, ◌+◌, ◌==◌, Bool, true, false, ◌||◌, subst, List, [], ◌∷◌, ◌++◌, Some, None, refl, sym, ap, ◌∙◌, append_assoc, append-nil}
 use Rattle.std.specs.List.{list_all}
 use Rattle.std.proofs.lemmas.Bool.{and_parts}
@@ -59,7 +59,7 @@ unfolding joined
 set_ends prefix level [] = refl
 set_ends prefix level (member ∷ members) = refl
 
--- a member on its line, and those behind it
+-- a member on its line, and those after it
 pub members_is : (prefix : Prefix) (level : ℕ) (member : Leveled) (members : List Leveled) → break_text prefix level ++ (member level ++ members_text prefix level members) ≡ members_text prefix level (member ∷ members)
 unfolding joined
 members_is prefix level member members =
@@ -95,7 +95,7 @@ braced {A} {r} {says} prefix level member members white p =
     (seq {f = ends_word} (λ behind fine. subst (λ (l : List ℕ). ends_word l ≡ true) (sym (append_assoc (break_text prefix level) (125 ∷ []) behind)) (break_ends prefix level (125 ∷ behind)))
     p (ignored (break_text prefix level) (break_ignored prefix level white) close_brace)))
 
--- the same behind something and a space
+-- the same after something and a space
 pub in_braces : {A : Type 0} {r : Rule A} {says : A → Type 0} (prefix : Prefix) (level : ℕ) (member : Leveled) (members : List Leveled) → is_white_prefix prefix ≡ true
     → Printed r says ends_word (members_text prefix (level + 1) (member ∷ members)) → Printed (between is_open_brace r is_close_brace) says any (set_text prefix level (member ∷ members))
 unfolding joined

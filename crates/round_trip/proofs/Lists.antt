@@ -3,7 +3,7 @@ use Rattle.std.proofs.Common.{◌≡◌, ℕ, true, List, [], ◌∷◌, ◌++�
 use Rattle.round_trip.specs.in_literals.Joined.{joined, further_text, separated}
 use Rattle.round_trip.specs.Printed.{ends_word}
 
--- a separator, a text, and those behind them
+-- a separator, a text, and those after them
 pub further_is : (separator text : List ℕ) (texts : List (List ℕ)) → separator ++ (text ++ further_text separator texts) ≡ further_text separator (text ∷ texts)
 unfolding joined
 further_is separator text texts =

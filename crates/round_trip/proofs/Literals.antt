@@ -23,7 +23,7 @@ use Rattle.round_trip.proofs.Sequences.{seq, mapped, left, right, nothing_more}
 use Rattle.round_trip.proofs.Tokens.{token, token_is_piece, keyword, named, any_name, spelled_passes}
 use Rattle.round_trip.proofs.Punctuators.{dollar}
 
--- the value, places aside
+-- the value, ignoring places
 abbrev pub IsValue : {P : Type 0} → ValueTree (Unit {0}) → ValueTree P → Type 0
 IsValue t x = unplaced_value x ≡ t
 

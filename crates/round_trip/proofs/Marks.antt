@@ -1,4 +1,4 @@
--- Where `"""` may stand in what is printed of a line, and how the line is read.
+-- Where `"""` may occur in a printed line, and how the line is read.
 use Rattle.std.proofs.Common.{◌≡◌, ℕ, Bool, true, false, cond, ◌&&◌, ◌==◌, List, [], ◌∷◌, ◌++◌, refl, subst, arith, eqb-true}
 use Rattle.std.specs.List.{list_all}
 use Rattle.std.proofs.lemmas.Bool.{and_parts, and_left, and_right}
@@ -67,7 +67,7 @@ plain_piece b rest none here = reads_piece block_character_len block_character_a
 plain_byte : (b : ℕ) (rest : List ℕ) → begins_with quotes rest ≡ false → begins_with quotes (b ∷ rest) ≡ false → BlockReads (b ∷ []) (b ∷ []) rest
 plain_byte b rest none here = plain_piece b rest (and_right (b == 92) (begins_with quotes rest) none) here
 
--- a byte that begins neither, whatever is behind it
+-- a byte that begins neither, whatever follows it
 pub other_byte : (b : ℕ) (rest : List ℕ) → (b == 34) ≡ false → (b == 92) ≡ false → BlockReads (b ∷ []) (b ∷ []) rest
 other_byte b rest one two = plain_piece b rest (and_left (b == 92) (begins_with quotes rest) two) (and_left (b == 34) (begins_with (34 ∷ 34 ∷ []) rest) one)
 

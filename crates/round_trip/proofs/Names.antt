@@ -20,7 +20,7 @@ use Rattle.round_trip.proofs.Punctuators.{ampersand, pipe, equals}
 use Rattle.round_trip.proofs.Lists.{further_is, further_ends}
 use Rattle.round_trip.proofs.Literals.{plain_text}
 
--- names, places aside
+-- names, ignoring places
 abbrev pub AreNames : {P Q : Type 0} → List (Text Q) → List (Text P) → Type 0
 AreNames ns xs = map unplaced_text xs ≡ map unplaced_text ns
 

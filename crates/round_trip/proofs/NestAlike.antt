@@ -1,4 +1,4 @@
--- Texts of trees that are equal, places aside, nest alike, and a printed text as deep as the tree that was printed.
+-- Texts of trees that are equal, ignoring places, have the same depth, and a printed text is as deep as its tree.
 use Rattle.std.proofs.Common.{◌≡◌, ℕ, List, [], ◌∷◌, true, sym, ap, ◌∙◌}
 use Rattle.std.proofs.lemmas.Bool.{and_parts}
 use Rattle.std.specs.Prelude.{None}

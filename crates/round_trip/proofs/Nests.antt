@@ -1,4 +1,4 @@
--- The depth of the tokens ahead of a rule is the greater of what the rule's tree has and of the depth of the tokens behind it.
+-- The depth of the tokens ahead of a rule is the greater of the depth of the rule's tree and that of the tokens after it.
 use Rattle.std.proofs.Common.{◌≡◌, ℕ, suc, ◌+◌, ◌-◌, max, Bool, true, false, cond, List, [], ◌∷◌, Option, Some, None, unwrap_or, ◌⊎◌, inl, inr, refl, sym, ap, ◌∙◌, arith}
 use Rattle.read_operations.specs.in_tokens.declared.terminal.Terminal.{Terminal}
 use Rattle.read_operations.specs.in_tokens.Input.{Token, Input}

@@ -28,14 +28,14 @@ unfolding joined
 parenthesized_ends [] = refl
 parenthesized_ends (text ∷ texts) = refl
 
--- The trees of a rule and those that are printed are the same, places aside, where these two functions say so.
+-- The trees of a rule and those that are printed are the same, ignoring places, if these two functions say so.
 module _ {P Q X Y Z : Type 0} (m : Meaning P) (r : Rule X) (u : X → Z) (w : Y → Z) (text : Y → List ℕ) where
   -- each is printed
   abbrev pub EachRead : List (Placed Q Y) → Type 0
   EachRead [] = Unit {0}
   EachRead (n ∷ ns) = Printed r (λ x. u x ≡ w n.it) ends_word (text n.it) × EachRead ns
 
-  -- nodes, places aside
+  -- nodes, ignoring places
   abbrev pub AreNodes : List (Placed Q Y) → List (Placed P X) → Type 0
   AreNodes ns xs = map (unplaced_node u) xs ≡ map (unplaced_node w) ns
 
@@ -49,7 +49,7 @@ module _ {P Q X Y Z : Type 0} (m : Meaning P) (r : Rule X) (u : X → Z) (w : Y 
       (one n h1 k1 (omega arith), each_read formed writable depth bound one ns h2 k2 (omega arith))
 
   module _ (b : ℕ) (separator : List ℕ) (blank : list_all is_ignored_byte (b ∷ separator) ≡ true) (ends : ends_word (b ∷ []) ≡ true) where
-    -- each behind a separator
+    -- each after a separator
     pub further_nodes : (ns : List (Placed Q Y)) → EachRead ns → Printed (many (rule.placed m r)) (AreNodes ns) ends_word (further_text (b ∷ separator) (texts_of text ns))
     unfolding joined
     further_nodes [] all = saying (AreNodes []) (λ xs e. ap (λ l. map (unplaced_node u) l) e) (no_more (rule.placed m r) ends_word)
@@ -65,7 +65,7 @@ module _ {P Q X Y Z : Type 0} (m : Meaning P) (r : Rule X) (u : X → Z) (w : Y 
         one_or_more {f = ends_word} (AreNodes (n ∷ ns)) (λ x xs e f. one_more (unplaced_node u x) (unplaced_node w n) _ _ (ap (λ z. unplaced_it z) e) f)
         (λ behind fine. further_ends b separator (texts_of text ns) behind ends fine) (placed m this) (further_nodes ns others)
 
-    -- each behind a separator, one at least
+    -- each after a separator, at least one
     pub some_nodes : (n : Placed Q Y) (ns : List (Placed Q Y)) → EachRead (n ∷ ns) → Printed (some (rule.placed m r)) (AreNodes (n ∷ ns)) ends_word (further_text (b ∷ separator) (texts_of text (n ∷ ns)))
     some_nodes n ns all =
         as_text _ (further_is (b ∷ separator) (text n.it) (texts_of text ns)) (ignored (b ∷ separator) blank (nodes n ns all))
@@ -79,7 +79,7 @@ module _ {P Q X Y Z : Type 0} (m : Meaning P) (r : Rule X) (u : X → Z) (w : Y 
       (seq {f = any} (λ behind fine. refl) open_paren (seq {f = ends_word} (λ behind fine. refl) (nodes 44 (32 ∷ []) refl refl n ns all) close_paren)))
 
 module _ {P X Z : Type 0} (u : X → Z) where
-  -- nodes, places aside, where none are there they are left out
+  -- nodes, ignoring places; if there are none, they are left out
   abbrev pub AreAny : List (Placed (Unit {0}) Z) → Option (List (Placed P X)) → Type 0
   AreAny zs o = map (unplaced_node u) (unwrap_or o []) ≡ zs
 

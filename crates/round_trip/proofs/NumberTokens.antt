@@ -15,7 +15,7 @@ use Rattle.round_trip.specs.Printed.{ends_word}
 use Rattle.round_trip.specs.Literals.{NumbersRead}
 use Rattle.round_trip.proofs.Tokens.{drop_front, whole_run}
 
--- ---- what is behind a number
+-- ---- what follows a number
 
 record Ends (behind : List ℕ) : Type 0 where
   goes : begins_by goes_on behind ≡ false
@@ -178,7 +178,7 @@ sign_before sign (b ∷ bytes) signs h = go sign signs (apart_from (λ c. not (i
     go sign (inl is) other = rw is (rw other (refl, h))
     go sign (inr is) other = rw is (refl, refl)
 
--- a number of these parts, before what is behind it
+-- a number of these parts, before what follows it
 parts_token : (sign whole fraction exponent behind : List ℕ) → (sign ≡ []) ⊎ (sign ≡ 45 ∷ []) → is_natural whole ≡ true → begins_by is_ascii_digit (fraction ++ (exponent ++ behind)) ≡ false
     → fraction_len (fraction ++ (exponent ++ behind)) ≡ Some (length fraction) → exponent_len (exponent ++ behind) ≡ Some (length exponent) → begins_by goes_on behind ≡ false
     → token_at (sign ++ (whole ++ (fraction ++ (exponent ++ behind))))
@@ -241,7 +241,7 @@ split p q (c ∷ cs) h = elim (or_cases (p [] && q (c ∷ cs)) (followed_by (λ 
       record { one = c ∷ s.one; two = s.two; is = ap (λ (l : List ℕ). c ∷ l) s.is; first = s.first; second = s.second }
 ]
 
--- what is behind the integer part: a fraction, an exponent, or both
+-- what follows the integer part: a fraction, an exponent, or both
 record Tail (text behind : List ℕ) : Type 0 where
   fraction : List ℕ
   exponent : List ℕ

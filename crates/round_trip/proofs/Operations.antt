@@ -134,7 +134,7 @@ module _ {P Q : Type 0} (m : Meaning P) (lits : LiteralsRead m.string) where
   operation_name_read (Some n) h =
       saying (IsAnyName (Some (unplaced_text n))) (λ o e. some_name o e.0 n.it e.1 e.2) (given (ignored (32 ∷ []) refl (nothing_more (any_name m n.it h))))
 
-  -- the operation, places aside
+  -- the operation, ignoring places
   abbrev pub IsOperation : OperationTree Q → OperationTree P → Type 0
   IsOperation o x = unplaced_operation x ≡ unplaced_operation o
 
@@ -179,7 +179,7 @@ module _ {P Q : Type 0} (m : Meaning P) (lits : LiteralsRead m.string) where
         go true e = short_read o n level (and_parts at_start (is_bare_query o) e).1 h w le
         go false e = full_read o n level h w le
 
-    -- the fragment, places aside
+    -- the fragment, ignoring places
     abbrev pub IsFragment : FragmentTree Q → FragmentTree P → Type 0
     IsFragment f x = unplaced_fragment x ≡ unplaced_fragment f
 

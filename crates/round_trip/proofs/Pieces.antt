@@ -35,7 +35,7 @@ module _ (size : List ℕ → Option ℕ) (part : List ℕ → List ℕ × ℕ) 
         ∙ ap (λ (r : List ℕ). value ++ replaced part 0 r) (drop_at (b ∷ text) rest (length (b ∷ text)) refl);
   }
 
-  -- a text, and one behind it
+  -- a text, then another
   pub reads_both : (text value more others rest : List ℕ) → Reads text value (more ++ rest) → Reads more others rest → Reads (text ++ more) (value ++ others) rest
   reads_both text value more others rest a b = record {
     passed =

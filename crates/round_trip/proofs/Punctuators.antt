@@ -1,4 +1,4 @@
--- Each punctuator is read as it is printed, whatever is behind it.
+-- Each punctuator is read as it is printed, whatever follows it.
 use Rattle.std.proofs.Common.{◌≡◌, [], ◌∷◌, refl}
 use Rattle.read_operations.specs.in_tokens.declared.token.TokenKind.TheVariants as t
 use Rattle.read_operations.specs.in_tokens.Tokens.{ignored_at, token_at}

@@ -148,8 +148,8 @@ string_found : (bytes : List ℕ) → token_at (34 ∷ bytes) ≡ string_at (34 
 unfolding token_at
 string_found bytes = refl
 
--- What is printed between quotation marks is one String token, whatever is behind it; but two quotation marks alone are
--- one where no third follows.
+-- What is printed between quotation marks is one String token, whatever follows it; but two quotation marks alone are one only if
+-- no third follows.
 pub quoted_is_token : (text behind : List ℕ) → MayFollow text behind → IsToken k.String (quoted_text text) behind
 unfolding string_at
 quoted_is_token text behind h =

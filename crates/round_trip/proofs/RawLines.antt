@@ -79,7 +79,7 @@ indented_in_line : (start line : List ℕ) → in_line start ≡ true → in_lin
 indented_in_line start [] s h = refl
 indented_in_line start (x ∷ line) s h = all_both is_in_line start (x ∷ line) s h
 
--- behind a line, lines as they are written and the line of the last marks
+-- after a line, the lines as they are written and the line of the last marks
 lines_behind : (start line : List ℕ) (lines : List (List ℕ)) → in_line start ≡ true → in_line line ≡ true → list_all in_line lines ≡ true → lines_of (line ++ raw_of start lines) ≡ line ∷ (map (indented start) lines ++ start ∷ [])
 lines_behind start line [] s h all = line_more line start h ∙ ap (λ (ls : List (List ℕ)). line ∷ ls) (line_last start s)
 lines_behind start line (next ∷ lines) s h all =

@@ -73,7 +73,7 @@ module _ {X A B : Type 0} (symbol : Symbol A) (unplaced : A → B) (view : X →
   same (Ok x) found fault = ap unplaced (r.alone found.reads.tokens (view x) found.reads.lexed found.reads.derived) ∙ r.same
   same (Err e) found fault = limit e fault
 
-  -- within the limit want of memory alone
+  -- within the limit only out of memory is an error
   pub within : (result : Result X ReadFault) → ((tree : A) → ReadsWithin symbol nesting text tree → IsTreeUnlessMemory view tree result) → depth r.tokens ≤ nesting
       → IfErr result (λ e. e ≡ Memory)
   within (Ok x) only w = tt

@@ -1,4 +1,4 @@
--- Definitions of schemas, behind their descriptions, are read as they are printed, under both kinds of layout.
+-- Definitions of schemas, after their descriptions, are read as they are printed, under both kinds of layout.
 use Rattle.std.proofs.Common.{◌≡◌, ◌≤◌, ◌+◌, ℕ, zero, suc, true, List, [], ◌∷◌, ◌++◌, map, codes, refl, arith}
 use Rattle.std.specs.List.{list_all}
 use Rattle.std.proofs.lemmas.Bool.{and_parts}

@@ -29,7 +29,7 @@ use Rattle.round_trip.proofs.Nodes.{parenthesized_ends}
 use Rattle.round_trip.proofs.Directives.{arguments_read, directives_read, directives_end}
 use Rattle.round_trip.proofs.Lines.{start_ignored, break_ignored, set_ends, members_is, members_end, some_of_many, braced, in_braces}
 
--- the selection, and the selections, places aside
+-- the selection, and the selections, ignoring places
 abbrev pub IsSelection : {P : Type 0} → SelectionTree (Unit {0}) → SelectionTree P → Type 0
 IsSelection t x = unplaced_selection x ≡ t
 
@@ -42,7 +42,7 @@ IsSet ts x = unplaced_selections x ≡ ts
 abbrev pub IsAnySet : {P : Type 0} → SelectionTrees (Unit {0}) → Option (SelectionTrees P) → Type 0
 IsAnySet ts o = unplaced_selections (unwrap_or o no_selections) ≡ ts
 
--- a name that may be left out, places aside
+-- a name that may be left out, ignoring places
 abbrev pub IsAnyName : {P : Type 0} → Option (Text (Unit {0})) → Option (Text P) → Type 0
 IsAnyName n o = option_map unplaced_text o ≡ n
 
@@ -79,7 +79,7 @@ abbrev pub tail_of : List ℕ → List ℕ → List ℕ
 tail_of ds set = ds ++ (set ++ [])
 
 module _ {P Q : Type 0} (m : Meaning P) (lits : LiteralsRead m.string) where
-  -- alias:, and a rule behind it
+  -- `alias:`, then a rule
   alias_read : {B : Type 0} {s : Rule B} {tells : B → Type 0} {f : Follow} {b : List ℕ} (a : Option (Text Q)) → name_well_formed a ≡ true → Printed s tells f b → Printed (optional (alias m) · s) (λ x. IsAnyName (option_map unplaced_text a) x.0 × tells x.1) f (alias_text a ++ b)
   unfolding joined
   alias_read {B} {s} {tells} {f} {b} None h p =

@@ -1,4 +1,4 @@
--- Printed texts one behind the other, and the rules of the grammar with them.
+-- Printed texts one after the other, and the rules of the grammar with them.
 use Rattle.std.proofs.Common.{◌≡◌, ℕ, ◌+◌, true, List, [], ◌∷◌, ◌++◌, length, Some, None, refl, sym, subst, inl, inr, append_assoc, append-nil, length-append, arith}
 use Rattle.std.specs.List.{list_all}
 use Rattle.std.proofs.lemmas.Bool.{and_parts}
@@ -10,7 +10,7 @@ use Rattle.read_operations.specs.in_grammar.Rules as rule
 use Rattle.read_operations.specs.in_grammar.Rules.{Rule, one, ◌·◌, ◌<$>◌, ◌∣◌, optional, many, some}
 use Rattle.round_trip.specs.Printed.{Follow, any, ends_word, LexesAt, before, Printed}
 
--- ---- what is behind
+-- ---- what follows
 
 -- what ends a word, before what ends a word
 pub ends_before : (text behind : List ℕ) → ends_word text ≡ true → ends_word behind ≡ true → ends_word (text ++ behind) ≡ true
@@ -37,7 +37,7 @@ module _ {A : Type 0} {r : Rule A} {says : A → Type 0} {f : Follow} {a : List 
         };
   }
 
-  -- what may stand before anything
+  -- what may come before anything
   pub before_any : Printed r says any a → Printed r says f a
   before_any p = record { stands = λ behind at others fine lexed. p.stands behind at others refl lexed }
 
@@ -84,7 +84,7 @@ module _ {A B : Type 0} {r : Rule A} {s : Rule B} {says : A → Type 0} {tells :
 pub from_here : (at : ℕ) (text : List ℕ) (tokens : List Token) → LexesAt (at + 0) text tokens → LexesAt at text tokens
 from_here at text tokens l = let same : at + 0 ≡ at = omega arith in subst (λ (i : ℕ). LexesAt i text tokens) same l
 
--- a byte that is ignored, and what is behind it
+-- a byte that is ignored, and what follows it
 pub ignored_piece : (b : ℕ) (text : List ℕ) → is_ignored_byte b ≡ true → piece_at (b ∷ text) ≡ Some (record { kind = None; length = 1 })
 unfolding piece_at ignored_at
 ignored_piece b text h = rw h refl
@@ -133,7 +133,7 @@ module _ {A : Type 0} {r : Rule A} {says : A → Type 0} {f : Follow} {a : List 
         };
   }
 
-  -- what is said of the tree, wherever it stands
+  -- what is said of the tree, wherever it is
   pub placed : {P : Type 0} (m : Meaning P) → Printed r says f a → Printed (rule.placed m r) (λ x. says x.it) f a
   placed m p = record {
     stands = λ behind at others fine lexed.
@@ -164,7 +164,7 @@ module _ {A : Type 0} {r : Rule A} {says : A → Type 0} {f : Follow} {a : List 
         };
   }
 
-  -- behind bytes that are ignored
+  -- after bytes that are ignored
   pub ignored : (front : List ℕ) → list_all is_ignored_byte front ≡ true → Printed r says f a → Printed r says f (front ++ a)
   ignored front all p = record {
     stands = λ behind at others fine lexed.

@@ -49,7 +49,7 @@ piece_is kind text behind begins token =
     ap (λ o. piece_of o (token_at (text ++ behind))) (not_ignored text behind begins)
     ∙ ap (piece_of None) token
 
--- and the front of the text before what is behind it
+-- and its token is the first of the text, before what follows it
 pub string_lexes : (kind : TokenKind) (text behind : List ℕ) → BeginsMarked text → IsToken kind text behind → LexesFront (text ++ behind) (record { kind = terminal_of kind text; text = text; offset = 0 } ∷ []) behind
 string_lexes kind text behind begins token = record {
   pieces = string_piece kind text ∷ [];

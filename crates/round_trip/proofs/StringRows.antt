@@ -40,12 +40,12 @@ controls : Quoted (0 ∷ 11 ∷ 31 ∷ 127 ∷ []) (codes "\"\\u0000\\u000B\\u00
 unfolding joined token_at string_at quoted_len run_len part_len escape_at unicode_at string_value replaced part_at encode_utf8
 controls = (refl, refl, refl)
 
--- bytes past ASCII stand as they are, also where they are no UTF-8
+-- bytes past ASCII are unchanged, even if they are no UTF-8
 beyond : Quoted (195 ∷ 169 ∷ 255 ∷ []) (34 ∷ 195 ∷ 169 ∷ 255 ∷ 34 ∷ [])
 unfolding joined token_at string_at quoted_len run_len part_len string_value replaced part_at
 beyond = (refl, refl, refl)
 
--- the empty text alone minds what is behind it: a third quotation mark begins a block string
+-- only for the empty text it matters what follows: a third quotation mark begins a block string
 third_mark : token_at (quoted_text [] ++ 34 ∷ []) ≡ None
 unfolding joined token_at string_at block_len run_len
 third_mark = refl
@@ -81,7 +81,7 @@ other_escapes : Block (codes "\\n\n\\u0041\\") (codes "\"\"\"\n  \\n\n  \\u0041\
 unfolding joined token_at string_at block_len run_len block_character_len block_value raw_value block_string_value lines_of replaced block_character_at
 other_escapes = (refl, refl, refl, refl)
 
--- in the middle stand an empty line and a line of one tab, which is less than the indent
+-- in the middle are an empty line and a line of one tab, which is less than the indent
 blanks_between : Block (codes "a\n\n\t\nb") (codes "\"\"\"\n  a\n\n  \t\n  b\n  \"\"\"")
 unfolding joined token_at string_at block_len run_len block_character_len block_value raw_value block_string_value lines_of replaced block_character_at
 blanks_between = (refl, refl, refl, refl)

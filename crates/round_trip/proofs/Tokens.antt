@@ -40,7 +40,7 @@ drop_front (b ∷ text) behind = drop_front text behind
 abbrev pub IsToken : TokenKind → List ℕ → Token → Type 0
 IsToken kind text token = (token.kind ≡ terminal_of kind text) × (token.text ≡ text)
 
--- a text that is one piece, a token's, before what is behind it
+-- a text that is one piece, a token's, before what follows it
 pub token_here : (is : Terminal → Bool) (kind : TokenKind) (text behind : List ℕ) (at : ℕ) (others : List Token) → piece_at (text ++ behind) ≡ Some (token_piece kind text) → is (terminal_of kind text) ≡ true → LexesAt (at + length text) behind others
     → PrintedBefore (one is) (IsToken kind text) text behind at others
 token_here is kind text behind at others piece passes lexed =
@@ -98,7 +98,7 @@ pub token_is_piece : (kind : TokenKind) (text behind : List ℕ) → token_at (t
 unfolding piece_at
 token_is_piece kind text behind h = rw (token_not_ignored (text ++ behind) (kind, length text) h) (rw h refl)
 
--- behind a word no name character stands
+-- no name character follows a word
 pub word_ends : (behind : List ℕ) → ends_word behind ≡ true → begins_by is_name_continue behind ≡ false
 word_ends [] h = refl
 word_ends (b ∷ behind) h = (no_or_twice (is_name_continue b) (b == 46) (b == 34) h)
@@ -107,7 +107,7 @@ word_ends (b ∷ behind) h = (no_or_twice (is_name_continue b) (b == 46) (b == 3
     no_or_twice true y z e = absurd cc
     no_or_twice false y z e = refl
 
--- all of a text that passes, and nothing of what is behind it
+-- all of a text that passes, and nothing of what follows it
 pub whole_run : (p : ℕ → Bool) (text behind : List ℕ) → list_all p text ≡ true → begins_by p behind ≡ false → prefix_len p (text ++ behind) ≡ length text
 whole_run p [] [] all none = refl
 whole_run p [] (b ∷ behind) all none = rw none refl

@@ -1,4 +1,4 @@
--- Definitions of types, behind their descriptions, are read as they are printed, under both kinds of layout.
+-- Definitions of types, after their descriptions, are read as they are printed, under both kinds of layout.
 use Rattle.std.proofs.Common.{◌≡◌, ◌≤◌, ◌+◌, ℕ, zero, suc, Bool, true, List, [], ◌∷◌, ◌++◌, map, codes, refl, sym, ap, ◌∙◌, append_assoc, append-nil, arith}
 use Rattle.std.specs.List.{list_all}
 use Rattle.std.proofs.lemmas.Bool.{and_parts}
@@ -71,7 +71,7 @@ one_input_object l n ds es vs ws e f g = rw e (rw f (rw g refl))
 
 -- ---- heads
 
--- a head and what is behind it, as they are joined
+-- a head and what follows it, as they are joined
 joined_head : (front name names ds set : List ℕ) → front ++ (name ++ (names ++ (ds ++ set))) ≡ (front ++ (name ++ (names ++ (ds ++ [])))) ++ (set ++ [])
 joined_head front name names ds set =
     sym

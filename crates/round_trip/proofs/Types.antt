@@ -14,7 +14,7 @@ use Rattle.round_trip.proofs.Sequences.{seq, mapped, left, right, given, then_no
 use Rattle.round_trip.proofs.Tokens.{any_name}
 use Rattle.round_trip.proofs.Punctuators.{bang, open_bracket, close_bracket}
 
--- the type, places aside
+-- the type, ignoring places
 abbrev pub IsType : {P : Type 0} → TypeTree (Unit {0}) → TypeTree P → Type 0
 IsType t x = unplaced_type x ≡ t
 

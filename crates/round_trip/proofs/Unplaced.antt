@@ -194,7 +194,7 @@ module _ {P : Type 0} where
   pub roots_set_same : (rs : List (Placed P (RootOperationTree P))) → texts_of root_text rs ≡ texts_of root_text (map (unplaced_node unplaced_root) rs)
   roots_set_same rs = texts_same root_text root_text unplaced_root (λ r. refl) rs
 
-  -- ---- definitions, behind what stands before them
+  -- ---- definitions, with what comes before them
 
   schema_same : (lead front : List ℕ) → lead ≡ front → (prefix : Prefix) (s : SchemaParts P) (level : ℕ) → schema_text lead prefix s level ≡ schema_text front prefix (unplaced_schema s) level
   schema_same lead front e prefix s level = λ i. joined (e i ∷ codes "schema" ∷ directives_same s.directives i ∷ set_text prefix level (roots_set_same s.roots i) ∷ [])

@@ -20,7 +20,7 @@ use Rattle.round_trip.proofs.Punctuators.{colon, open_bracket, close_bracket, op
 use Rattle.round_trip.proofs.Lists.{further_is, separated_is, further_ends}
 use Rattle.round_trip.proofs.Literals.{IsValue, null_read, boolean_read, enum_read, int_read, float_read, string_read, variable_read, as_list, as_object}
 
--- the items, and the fields, places aside
+-- the items, and the fields, ignoring places
 abbrev pub AreItems : {P : Type 0} → ItemTrees (Unit {0}) → List (Placed P (ValueTree P)) → Type 0
 AreItems ts xs = unplaced_items (items_of xs) ≡ ts
 
@@ -60,7 +60,7 @@ module _ {P : Type 0} (m : Meaning P) (lits : LiteralsRead m.string) where
       (mapped (λ x. x.1.0) (AreEntries ts) (λ x said. said.1.0)
       (seq {f = any} (λ behind fine. refl) open_brace (seq {f = ends_word} (λ behind fine. refl) p close_brace))))
 
-  -- one more, and what is behind it
+  -- one more, and what follows it
   item_more : (r : Rule (ValueTree P)) (t : ValueTree (Unit {0})) (ts : ItemTrees (Unit {0})) (text : List ℕ) (texts : List (List ℕ)) → Printed r (IsValue t) ends_word text
       → Printed (many (rule.placed m r)) (AreItems ts) ends_word (further_text (codes ", ") texts) → Printed (many (rule.placed m r)) (AreItems (item_then tt t ts)) ends_word (text ++ further_text (codes ", ") texts)
   item_more r t ts text texts p q =

@@ -1,4 +1,4 @@
--- A printed text with nothing behind it is a text of its symbol, and of one tree alone.
+-- A printed text with nothing after it is a text of its symbol, and of one tree alone.
 use Rattle.std.proofs.Common.{◌≡◌, ℕ, true, List, [], refl, subst, append-nil}
 use Rattle.read_operations.specs.in_tokens.Input.{Token, Ended}
 use Rattle.read_operations.specs.in_tokens.Lex.{Lex}

@@ -1,4 +1,4 @@
--- What stands between the marks of a printed block string, and its raw value.
+-- What is between the marks of a printed block string, and its raw value.
 use Rattle.std.proofs.Common.{◌≡◌, ℕ, zero, suc, Bool, true, List, [], ◌∷◌, ◌++◌, map, refl, sym, ap, ◌∙◌, subst, append-nil, append_assoc}
 use Rattle.std.specs.List.{list_all}
 use Rattle.std.proofs.lemmas.Bool.{and_parts, and_from}
@@ -30,7 +30,7 @@ abbrev pub written : List ℕ → ℕ → List (List ℕ) → List ℕ
 written prefix level [] = 10 ∷ line_start prefix level
 written prefix level (line ∷ lines) = block_line prefix level line ++ written prefix level lines
 
--- a line behind what begins it
+-- a line after what begins it
 abbrev pub indented : List ℕ → List ℕ → List ℕ
 indented start [] = []
 indented start (b ∷ line) = start ++ b ∷ line

@@ -1,5 +1,7 @@
 //! All rows. Its words name the files of its `data/`. How the calls of rows answer is in `row_building`, `row_rules` and `row_texts`;
 //! here is what needs the checker, or every rule: the calls of `Library`.
+//!
+//! Begin with `rules.rt`, then `checks.rt` and `answers.rt`.
 #![tactic(auto)]
 
 mod answers;

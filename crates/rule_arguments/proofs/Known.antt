@@ -1,4 +1,4 @@
--- What is told where look-ups are known.
+-- What is told where lookups are known.
 use Rattle.std.proofs.Common.{◌≡◌, ◌↔◌, false, [], ◌∷◌, refl, sym, ap, ◌∙◌, Option, None, Some, is_some, find, bytes_eq, true≢false}
 use Rattle.std.specs.Option.{option_map}
 use Rattle.graphql_names.specs.Placed.{Placed, Place, Text}

@@ -42,7 +42,7 @@ pub found_none : {X Y : Type 0} (f : X → Y) (o : Option X) (z : Option Y) (b :
 found_none f None z b e is = (λ t. sym is, λ n. none_is b e)
 found_none f (Some x) z b e is = (λ t. absurd (true≢false (e ∙ ap not t)), λ n. absurd (true≢false (ap is_some (is ∙ n))))
 
--- the number of the name of what stands at an index is that index, if none of the name is before it
+-- the number of the name of the element at an index is that index, if no element before it has the name
 pub first_number : {S : Type 0} (numbers : IndexMap NameValue ℕ S) (xs : List (Node Argument)) (i : ℕ) (n : NameValue) → AreNumbers argument_name numbers (arguments_of xs) → IsNamedAt xs i n
     → (get (same_text name_text) numbers n ≡ Some i) ↔ (find (argument_has_name n.text) (take i (arguments_of xs)) ≡ None)
 first_number numbers xs i n are (x, (there, named)) = (

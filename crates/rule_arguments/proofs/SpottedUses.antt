@@ -51,7 +51,7 @@ carries_itself = record {
   unique_directive = λ n a. refl;
 }
 
--- the i-th place behind k others
+-- the number of the i-th place after k others
 abbrev behind : ℕ → ℕ → ℕ
 behind zero k = k
 behind (suc i) k = behind i (suc k)

@@ -171,7 +171,7 @@ module _ (at : Address → Place) (s : SchemaTree Place) (variables : Variables 
       joined (inl (j, (a, (there, (first, (i, (v, (here, (name, (first', u)))))))))) = (j, (a, (there, (first, (i, (v, (here, (name, (first', inl u)))))))))
       joined (inr (j, (a, (there, (first, (i, (v, (here, (name, (first', t)))))))))) = (j, (a, (there, (first, (i, (v, (here, (name, (first', inr t)))))))))
 
--- the places of a schema are those of the definitions that stand in it
+-- the places of a schema are those of the definitions that are in it
 pub stands_in : (s : SchemaTree Place) (t : Rust) → arguments_at s (holder_of t.name) ≡ input_value_trees t.definitions.now → TellsPlaces (place_at s) s t
 stands_in s t stands = record {
   schema = record { types = λ n. refl; inputs = λ n m. refl; references = λ n m. refl };

@@ -1,4 +1,4 @@
--- Lemmas on lists, once for all that stands on this crate.
+-- Lemmas on lists, once for all crates that depend on this one.
 use Rattle.std.proofs.Common.{◌≡◌, ℕ, ◌<◌, ◌⊎◌, List, [], ◌∷◌, get_or, map, length, ◌==◌, true, refl, sym, ap, subst, inl, inr, Option, None, Some, Contains, zero, suc, arith, slice_get}
 use Rattle.std.specs.List.{flat_map}
 use Rattle.std.specs.Option.{option_map}

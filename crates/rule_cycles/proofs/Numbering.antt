@@ -28,7 +28,7 @@ keys_mapped f (e ∷ es) = ap (λ l. name_text e.0 ∷ l) (keys_mapped f es)
 pub numbered : {X A S : Type 0} (f : X → A) (k : NameValue) (m : IndexMap NameValue X S) → index_of_by (same_text name_text k) m ≡ number_of k.text (entries_of name_text f m)
 numbered f k m = sym (ap (position (bytes_eq k.text)) (keys_mapped f m.entries) ∙ position_mapped (bytes_eq k.text) name_text (keys_of m.entries))
 
--- what stands at an index, as it is seen
+-- the entry at an index, as the rules see it
 pub seen_entry : {X A S : Type 0} (f : X → A) (m : IndexMap NameValue X S) (i : ℕ) (r : Option (Bor NameValue × Bor X)) → option_map {U = NameValue × X} (λ p. (p.0.now, p.1.now)) r ≡ slice_get m.entries i
     → slice_get (entries_of name_text f m) i ≡ option_map {U = List ℕ × A} (λ p. (name_text p.0.now, f p.1.now)) r
 seen_entry {X} {A} f m i r e = slice_get-map (λ (x : NameValue × X). (name_text x.0, f x.1)) m.entries i ∙ ap (option_map (λ (x : NameValue × X). (name_text x.0, f x.1))) (sym e) ∙ by r

@@ -117,7 +117,7 @@ module _ (s : SchemaTree Place) where
     full_present : IsFullPart (P x) rs → IsFullPart (λ by y. Present o (λ z. P z by y)) rs
     full_present a by y j q h = a by y j (subst (λ z. P z by y) (same_Some q.0 x (sym q.1.0 ∙ is)) q.1.1) h
 
-  -- ---- what stands at indices, and under names
+  -- ---- what is at indices, and under names
 
   module _ {V X : Type 0} (xs : List V) (f : V → X) (refs : V → Labelled Use) (P : ℕ → X → By → Thing → Type 0) where
     sound_listed : ((i : ℕ) (v : V) → slice_get xs i ≡ Some v → IsSoundPart (P i (f v)) (refs v)) → IsSoundPart (λ by y. AtSomeIndex (map f xs) (λ i x. P i x by y)) (flat_map refs xs)
@@ -147,7 +147,7 @@ module _ (s : SchemaTree Place) where
         let r : (l : Use) × Contains (refs v.0) (j, l) = part m v.0 v.1.0 by y j (subst (λ z. P m z by y) v.1.1 p) h in
         (r.0, given_in (λ (e : List ℕ × V). refs e.1) (j, r.0) es (m, v.0) (under_given m es v.0 v.1.0) r.1)
 
-  -- ---- a directive, and a type, that stands at a number
+  -- ---- the directive, and the type, with a number
 
   pub thing_of_directive : (n : List ℕ) (d : Placed Place (DirectiveDefinitionTree Place)) (i : ℕ) → slice_get s.directives i ≡ Some (n, d) → thing_at i ≡ Some (ADirective n)
   thing_of_directive n d i h =

@@ -23,7 +23,7 @@ pub flat_last : {X Y : Type 0} (f : X → List Y) (xs : List X) (x : X) → flat
 flat_last f [] x = append-nil (f x)
 flat_last f (y ∷ xs) x = ap (λ l. f y ++ l) (flat_last f xs x) ∙ sym (append_assoc (f y) (flat_map f xs) (f x))
 
--- nothing stands at numbers beyond the last type
+-- nothing is at numbers beyond the last type
 pub nothing_past : (s : SchemaTree Place) (i : ℕ) → length s.directives + length s.types ≤ i → uses_at s i ≡ []
 nothing_past s i h =
     let past : length s.directives ≤ i = omega (arith, h) in

@@ -1,4 +1,4 @@
--- A type accepts a value exactly where no rule on values fails.
+-- A type accepts a value exactly when no rule on values fails.
 use Rattle.std.proofs.Common.{◌≡◌, ◌↔◌, ℕ, zero, suc, ℤ, pos, negsuc, ◌<◌, ◌^◌, Bool, true, false, not, ◌&&◌, ◌||◌, List, [], ◌∷◌, codes, find, bytes_eq, slice_get, is_some, Option, None, Some, refl, sym, ap, subst, ◌∙◌, inl, inr, ◌⊎◌, FitsSigned, if◌then◌else◌, true≢false, w32, arith}
 use Rattle.std.specs.Bool.{Decides}
 use Rattle.std.proofs.lemmas.Bool.Decides.{Decides-ltb}

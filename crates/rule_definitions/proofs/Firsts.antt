@@ -1,4 +1,4 @@
--- The first of a name: by its index, and by a look-up.
+-- The first of a name: by its index, and by a lookup.
 use Rattle.std.proofs.Common.{◌≡◌, ℕ, ◌<◌, ◌↔◌, Bool, true, false, cond, List, [], ◌∷◌, take, length, refl, sym, ap, subst, ◌∙◌, Option, None, Some, zero, suc, slice_get, find, bytes_eq, arith, true≢false, is_some}
 use Rattle.std.proofs.lemmas.Slice.Eq.{bytes_eq-Decides}
 use Rattle.std.proofs.lemmas.Option.{same_Some}

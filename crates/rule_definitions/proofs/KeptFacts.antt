@@ -140,7 +140,7 @@ module _ (n : List ℕ) where
       (any_named (plain_given unplaced_field_definition) (λ g. is_inside_field n g.it.it) InField t.fields (each_of (λ e. field_decides e.1.it.it) t.fields) u.0)
       (any_named (plain_given unplaced_input_value) (λ g. is_inside n g.it.it.ty.it) (λ v. named_in v.ty.it ≡ n) t.inputs (each_of (λ e. inside_decides e.1.it.it.ty.it) t.inputs) u.1)
 
--- what a look-up that is mapped gives
+-- if the answer of a lookup is mapped to y, the lookup finds an x, and what holds of y holds of g x
 unmapped : {X Y : Type 0} (g : X → Y) (P : Y → Type 0) (o : Option X) (y : Y) → option_map g o ≡ Some y → P y → (x : X) × ((o ≡ Some x) × P (g x))
 unmapped g P None y e p = no_some y e
 unmapped g P (Some x) y e p = (x, (refl, subst P (sym (same_Some _ _ e)) p))

@@ -11,7 +11,7 @@ use Rattle.schema_types.proofs.in_components.Places.{each_place-push}
 use Rattle.rule_cycle_search.proofs.Lists.{not_in_nil, only, is_only}
 use Rattle.rule_definitions.specs.Words.{Present, AtSomeIndex}
 
--- x stands at an index, or behind the others
+-- what holds at some index of a list with one more element holds at an earlier index, or of that element
 module _ {X : Type 0} where
   pub index_append : (ys : List X) (y : X) (R : ℕ → X → Type 0) → AtSomeIndex (ys ++ y ∷ []) R ↔ (AtSomeIndex ys R ⊎ R (length ys) y)
   index_append [] y R = (λ h. by h.0 h.1.0 h.1.1.0 h.1.1.1, λ q. elim q [ inl h ↦ cc | inr r ↦ (0, (y, (refl, r))) ])
@@ -36,7 +36,7 @@ module _ {X : Type 0} where
 pub present_known : {X : Type 0} (o : Option X) (x : X) (P : X → Type 0) → o ≡ Some x → P x ↔ Present o P
 present_known o x P e = (λ p. (x, (e, p)), λ h. subst P (sym (same_Some x h.0 (sym e ∙ h.1.0))) h.1.1)
 
--- an empty list, and what stands in it
+-- a list of length 0 is empty
 pub empty_is : {X : Type 0} (xs : List X) → (length xs == 0) ≡ true → xs ≡ []
 empty_is [] h = refl
 empty_is (x ∷ xs) h = absurd (omega (arith, eqb-true (length (x ∷ xs)) 0 h))

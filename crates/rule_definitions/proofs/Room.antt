@@ -15,7 +15,7 @@ is_cons [] = false
 is_cons (x ∷ xs) = true
 
 module _ {A : Type 0} where
-  -- one list behind the other
+  -- one list after the other
   pub room_both : (a l m : List A) → (a ⊕ l) ⊕ m ≡ a ⊕ (l ++ m)
   room_both a [] m = refl
   room_both a (x ∷ l) m = room_both (told_one a x) l m

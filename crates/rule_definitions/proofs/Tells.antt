@@ -80,7 +80,7 @@ module _ {A B : Type 0} (Is : A → B → Type 0) where
 
   -- u gives what the rule says of what stands there
   module _ {X Y : Type 0} (u : X → Y) where
-    -- of what a look-up finds
+    -- of what a lookup finds
     pub tells_present : (o : Option X) (look : Option Y) → look ≡ option_map u o → (tells : X → List B) (R : Y → A → Type 0) → ((x : X) → o ≡ Some x → Tells (tells x) (R (u x)))
         → Tells (option_map_or tells o []) (λ g. Present look (λ y. R y g))
     tells_present None look same tells R each f = (λ h. not_in_nil f h, λ q. let e : None ≡ Some q.1.0.0 = sym same ∙ q.1.0.1.0 in cc)

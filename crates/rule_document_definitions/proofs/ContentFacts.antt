@@ -1,4 +1,4 @@
--- Fields merge exactly if their contents do: what a set selects does not hang on where the set stands.
+-- Fields merge exactly if their contents do: what a set selects does not depend on where the set is.
 use Rattle.std.proofs.Common.{◌≡◌, ◌↔◌, ℕ, suc, List, [], ◌∷◌, None, Some, Contains, refl, sym, ap, subst, ◌∙◌, inl, inr}
 use Rattle.std.specs.Option.{option_map}
 use Rattle.std.proofs.lemmas.List.Elements.{Contains-append_right}

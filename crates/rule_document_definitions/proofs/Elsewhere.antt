@@ -1,4 +1,4 @@
--- What a set selects does not hang on where the set stands: its fields have the same contents anywhere.
+-- What a set selects does not depend on where the set is: its fields have the same contents anywhere.
 use Rattle.std.proofs.Common.{◌≡◌, ◌⊎◌, ℕ, suc, List, ◌∷◌, map, None, Contains, refl, sym, ap, subst, ◌∙◌, inl, inr}
 use Rattle.std.specs.Option.{option_map}
 use Rattle.spec_document.specs.MeantTree.{MeantSelection, MeantField, MeantSpread, MeantInline, MeantSet, meant_set, MeantSelections, no_meant, meant_then, MeantOperation, MeantDocument}
@@ -41,12 +41,12 @@ module _ {P : Type 0} where
   field_anywhere h k t (MeantInline p n ds s) = refl
 
 module _ {P : Type 0} (d : MeantDocument P) where
-  -- the same as `InFragmentOf`, wherever they stand
+  -- the same as `InFragmentOf`, wherever they are
   abbrev Leads : Selecting P → Selecting P → Type 0
   Leads v w = Contains (map selecting (in_inline (InOperation None) v.1)) w
       ⊎ Present (spread_name v.1) (λ n. Present (fragment_named d n) (λ f. Contains (map selecting (held f)) w))
 
-  -- the same as standing in a set, wherever it stands
+  -- the selection is in the set, wherever the set is
   abbrev Begins : MeantSet P → Selecting P → Type 0
   Begins s v = Contains (map selecting (standing_in (InOperation None) s)) v
 

@@ -55,7 +55,7 @@ module _ {P : Type 0} (d : MeantDocument P) where
   abbrev pub spread_here : Standing P → List (Standing P)
   spread_here x = option_map_or (λ n. option_map_or held (fragment_named d n) []) (spread_name x.it) []
 
-  -- what stands in the inline fragment, or in the fragment that is spread
+  -- what is in the inline fragment, or in the fragment that is spread
   abbrev pub in_fragment_of : Standing P → List (Standing P)
   in_fragment_of x = in_inline x.position x.it ++ spread_here x
 

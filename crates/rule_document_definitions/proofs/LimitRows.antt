@@ -1,5 +1,5 @@
--- The bounds, by documents of any depth: `{ p { p { .. a } } }` passes the bound on chains exactly where it holds more fields than the
--- bound, and the bound on paths where it does; and fragments that spread one another are on one way.
+-- The bounds, by documents of any depth: `{ p { p { .. a } } }` passes the bound on chains exactly when it holds more fields than the
+-- bound, and the bound on paths if it holds more than that; and fragments that spread one another are on one path.
 use Rattle.std.proofs.Common.{◌≡◌, ℕ, ◌<◌, ◌≤◌, zero, suc, List, [], ◌∷◌, length, codes, refl, sym, ap, subst, ◌∙◌, None, Some, Contains, inl, inr, is_some, true≢false, arith}
 use Rattle.std.proofs.lemmas.Option.{same_Some}
 use Rattle.spec_document.specs.MeantTree.{MeantSelection, set_on, MeantOperation, MeantFragment, MeantDocument}
@@ -35,7 +35,7 @@ is_field : (at : Position) (t : List ℕ) (n : ℕ) → field_there at t (deep n
 is_field at t zero = refl
 is_field at t (suc n) = refl
 
--- nothing stands in it through fragments
+-- no selection is in it through a fragment
 no_fragment_in : {R : Type 0} (d : MeantDocument ℕ) (at : Position) (t : List ℕ) (n : ℕ) (y : Standing ℕ) → InFragmentOf d (record { position = at; parent = t; it = deep n }) y → R
 no_fragment_in d at t zero y (inl c) = not_in_nil y c
 no_fragment_in d at t (suc n) y (inl c) = not_in_nil y c

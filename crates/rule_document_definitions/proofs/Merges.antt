@@ -27,7 +27,7 @@ fields_merge s d o shapes selections settled start settled_too start_too = (merg
   selections = settled_merge (PlainBelow d) (MayShare s) SameNameAndArguments selections settled_too (PlainStarts d o) start_too;
 })
 
--- and where fields are settled that go together and stand in lists
+-- and where fields are settled that go together and are in lists
 pub standing_fields_merge : StandingFieldsMerge
 standing_fields_merge s d o shapes selections settled start settled_too start_too = (merges_by_contents s d o).1 (record {
   shapes = standing_merge (PlainBelow d) SameKey (SameShape s) (StandWhere SameKey shapes) settled (PlainStarts d o) start;

@@ -1,4 +1,4 @@
--- Where the fields of an operation merge, no rule on merging fails (the way back asks that agreement can be decided); and fields
+-- Where the fields of an operation merge, no rule on merging fails (the converse needs that agreement can be decided); and fields
 -- merge where all reached fields that go together agree.
 use Rattle.std.proofs.Common.{◌≡◌, List, [], ◌∷◌, ◌++◌, Some, inl, inr}
 use Rattle.spec_document.specs.MeantTree.{MeantOperation, MeantDocument}

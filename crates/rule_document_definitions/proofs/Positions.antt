@@ -83,7 +83,7 @@ module _ {P : Type 0} where
 -- ---- in an operation and what it reaches
 
 module _ {P : Type 0} (d : MeantDocument P) (o : MeantOperation P) where
-  -- the set that stands at the position
+  -- the set that is at the position
   abbrev HoldsSet : Position → MeantSet P → Type 0
   HoldsSet (InOperation n) s = s ≡ o.set
   HoldsSet (InFragment n) s = Present (fragment_named d n) (λ f. s ≡ f.set)
@@ -97,7 +97,7 @@ module _ {P : Type 0} (d : MeantDocument P) (o : MeantOperation P) where
       let one : x ≡ y = one_in_set h v x y (subst (λ (w : MeantSet P). Contains (standing_in h w) x) same c) k (e ∙ sym g) in
       same_Some _ _ (sym a ∙ ap (λ (w : Standing P). set_of w.it) one ∙ b)
 
-  -- it stands in a set there
+  -- it is in a set there
   abbrev StandsThere : Standing P → Type 0
   StandsThere x = (h : Position) × ((s : MeantSet P) × (HoldsSet h s × Contains (standing_in h s) x))
 

@@ -1,4 +1,4 @@
--- What small documents and their schema are made of. Selections stand at numbers.
+-- What small documents and their schema are made of. Numbers are the places of selections.
 use Rattle.std.proofs.Common.{◌≡◌, ℕ, Bool, true, false, List, [], ◌∷◌, codes, if◌then◌else◌, is_some, Option, None, Some, sym, ap, subst, true≢false}
 use Rattle.std.proofs.lemmas.Option.{same_Some}
 use Rattle.std.specs.Str.{bytes_eq}

@@ -1,5 +1,5 @@
--- What an operation reaches stands in it, or in a fragment to whose name spreads lead from it. So it is decided whether something
--- decided is so of a selection that is reached.
+-- What an operation reaches is in it, or in a fragment to whose name spreads lead from it. So it can be decided whether a property
+-- that can be decided holds of some selection that is reached.
 use Rattle.std.proofs.Common.{◌≡◌, ◌⊎◌, ℕ, List, map, Some, Contains, inl, inr}
 use Rattle.spec_document.specs.MeantTree.{MeantOperation, MeantFragment, MeantDocument}
 use Rattle.rule_definitions.specs.Words.{Present}

@@ -295,7 +295,7 @@ stable_given a b = given_if_value a (stable_value (value_or_null a)) b
 -- ---- fields
 
 module _ {P : Type 0} (s : Judged) (d : MeantDocument P) (o : MeantOperation P) where
-  -- fields merge exactly where no rule on merging fails
+  -- fields merge exactly when no rule on merging fails
   pub merge_if_nothing_breaks : ((fault : Broken P) → MergingBreaks s d o fault → ⊥) → FieldsMerge s d o
   merge_if_nothing_breaks none = record {
     shapes = λ f g meet. stable_shape s f g (λ n. none _ (inl (f, (g, (meet, (n, refl))))));

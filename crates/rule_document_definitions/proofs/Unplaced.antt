@@ -1,4 +1,4 @@
--- What is reached does not hang on places: without them the same is reached, at the same positions.
+-- What is reached does not depend on places: without them the same is reached, at the same positions.
 use Rattle.std.proofs.Common.{◌≡◌, ℕ, suc, Bool, true, false, List, [], ◌∷◌, map, find, bytes_eq, if◌then◌else◌, Option, None, Some, Contains, refl, sym, ap, subst, ◌∙◌, inl, inr}
 use Rattle.std.specs.Option.{option_map}
 use Rattle.std.proofs.lemmas.List.Elements.{Contains-append_right}
@@ -42,7 +42,7 @@ module _ {X Y : Type 0} (f : X → Y) where
         let q = t p.0 y (subst (λ v. Step v y) (sym p.1.1) l) in
         (q.0, (next p.1.0 q.1.0, q.1.1))
 
--- ---- what stands in a document
+-- ---- what is in a document
 
 module _ {P : Type 0} where
   abbrev pub unplaced_standing : Standing P → Standing (Unit {0})

@@ -34,7 +34,7 @@ module _ {P : Type 0} where
   itself t (MeantSpread p n ds) = Contains-first (t, MeantSpread p n ds) [] (t, MeantSpread p n ds) refl
   itself t (MeantInline p c ds s) = Contains-first (t, MeantInline p c ds s) (written_in s) (t, MeantInline p c ds s) refl
 
-  -- what stands in a set is written in it
+  -- what is in a set is written in it
   stand_written : (h : Position) (t : List ℕ) (i : ℕ) (ss : MeantSelections P) (x : Standing P) → Contains (stand h t i ss) x → Contains (written_along t ss) (selecting x)
   stand_written h t i no_meant x c = not_in_nil x c
   stand_written h t i (meant_then s ss) x c = elim (Contains-cons (record { position = SelectionAt h i; parent = t; it = s }) (stand h t (suc i) ss) x c) [
@@ -73,7 +73,7 @@ module _ {P : Type 0} where
       | inr b ↦ Contains-append_right (written_at t s) (written_along t ss) e (inner_along t ss w e b i)
     ]
 
-  -- where something is so of what stands in a set, and of what stands in an inline fragment of which it is so, it is so of all that is written in the set
+  -- what holds of all that is in a set, and of what is in an inline fragment of which it holds, holds of all that is written in the set
   module _ (R : Standing P → Type 0) (into : (x y : Standing P) → R x → Contains (in_inline x.position x.it) y → R y) where
     mutual
       so_at : (at : Position) (t : List ℕ) (m : MeantSelection P) → R (record { position = at; parent = t; it = m }) → (e : Written P) → Contains (written_at t m) e → (x : Standing P) × (R x × (selecting x ≡ e))

@@ -61,7 +61,7 @@ filter_twice first next (x ∷ xs) = by (first x) (filter_twice first next xs)
 pub part_of_part : {X : Type 0} (list part next : List X) → IsPartOf list part → IsPartOf part next → IsPartOf list next
 part_of_part list part next p q = (λ x. p.0 x && q.0 x, q.1 ∙ ap (filter q.0) p.1 ∙ filter_twice p.0 q.0 list)
 
--- ---- look-ups
+-- ---- lookups
 
 abbrev named : List ℕ → NameValue → Bool
 named n k = bytes_eq n k.text
@@ -105,7 +105,7 @@ module _ {X : Type 0} (name : X → List ℕ) (list : List X) (es : List (NameVa
           (e.0.0.text, sym v.1.1 ∙ ap (λ (w : Vec X Global). w.items) (sym e.1.1) ∙ sym (ap items found) ∙ is e.0.0.text);
     }
 
--- ---- how many items stand in an index
+-- ---- how many items are in an index
 
 module _ {X : Type 0} where
   abbrev lists : List (NameValue × Vec X Global) → List (List X)
@@ -135,12 +135,12 @@ module _ {X : Type 0} where
           behind : count (set_value test es w) ≡ count es + n → count (e ∷ set_value test es w) ≡ count (e ∷ es) + n
           behind more = omega (arith, more, first e (set_value test es w), first e es)
 
-  -- behind those that stand under a name
+  -- one item is added after those under a name
   pub count_pushed : (test : NameValue → Bool) (old new : List (NameValue × Vec X Global)) (v w : Vec X Global) (item : X) → lookup test old ≡ Some v → w.items ≡ v.items ++ item ∷ [] → new ≡ set_value test old w
       → count new ≡ count old + 1
   count_pushed test old new v w item found added is = ap count is ∙ written test w 1 old v found (one_more w v.items item added)
 
-  -- where nothing stands under it
+  -- where nothing is under it
   pub count_new : (name : NameValue) (w : Vec X Global) (item : X) → w.items ≡ item ∷ [] → (es new : List (NameValue × Vec X Global)) → new ≡ es ++ (name, w) ∷ [] → count new ≡ count es + 1
   count_new name w item is es new e = ap count e ∙ behind es
     where

@@ -235,7 +235,7 @@ module _ (pass : Pass) (s : Judged) where
     ];
   }
 
-  -- what is shared, and what is of one type behind the first that is
+  -- the list of shared fields, and the fields of each type after the first shared one
   abbrev pub with_first : List (StandingField Place) → List (List (StandingField Place)) → List (List (StandingField Place))
   with_first shared owns = shared ∷ map (λ l. take 1 shared ++ l) owns
 

@@ -3,13 +3,13 @@
 ghost use Rattle.std.specs.Prelude.{◌≡◌, ◌≤◌, ◌+◌, IsTrue, IfSome};
 ghost use Rattle.rule_field_groups.specs.Paid.{most_members};
 
-/// How many steps of walks each field pays that was met.
+/// By how many steps each field that is met raises the budget.
 pub(crate) const FOR_EACH_FIELD: usize = 4;
 
-/// How many steps are paid before any field is met.
+/// The budget in steps before any field is met.
 const AT_FIRST: usize = 200;
 
-/// How many more steps so many fields pay, if so many were taken.
+/// How many steps are left of the budget of so many fields, once so many are taken.
 pub(crate) fn left_of(spent: usize, fields: usize) -> usize {
     let all = fields
         .saturating_mul(FOR_EACH_FIELD)
@@ -17,7 +17,7 @@ pub(crate) fn left_of(spent: usize, fields: usize) -> usize {
     all.saturating_sub(spent)
 }
 
-/// Whether so many fields pay for so many steps.
+/// Whether so many steps are within the budget of so many fields.
 fn is_within_budget(steps: usize, fields: usize) -> bool
     ensures { IsTrue result → steps ≤ most_members fields }
 {
@@ -25,7 +25,7 @@ fn is_within_budget(steps: usize, fields: usize) -> bool
     more <= fields.saturating_mul(FOR_EACH_FIELD)
 }
 
-/// What is spent with so many steps more, if so many fields pay for all.
+/// The new total of steps, or `None` if it is over the budget of so many fields.
 pub(crate) fn charge(spent: usize, more: usize, fields: usize) -> Option<usize>
     ensures { IfSome result (λ all. (all ≡ spent + more) × (all ≤ most_members fields)) }
 {

@@ -19,9 +19,9 @@ in_last xs x = Contains-append_right xs (x ∷ []) x (Contains-first x [] x refl
 pub taken_more : {X : Type 0} (xs : List X) (i : ℕ) (x : X) → i < length xs → x ≡ get_or xs i x → take (i + 1) xs ≡ take i xs ++ x ∷ []
 taken_more xs i x h e = take_more xs i x h ∙ ap (λ y. take i xs ++ y ∷ []) (sym e)
 
--- ---- what stands at a place
+-- ---- what is at a place
 
--- more behind it changes nothing
+-- more elements after it change nothing
 pub stands_more : {X : Type 0} (xs ys : List X) (i : ℕ) (x : X) → slice_get xs i ≡ Some x → slice_get (xs ++ ys) i ≡ Some x
 stands_more xs ys i x h =
     let within : i < length xs = slice_get_within xs i x h in

@@ -28,7 +28,7 @@ module _ (fragments : Fragments Place) where
   pub places_begun : (places : List ℕ) → places ≡ [] → ArePlaces fragments [] places
   places_begun places none = subst (ArePlaces fragments []) (sym none) none_noted
 
-  -- what stands at a place that is found
+  -- what is at a place that is found
   place_is : (n : List ℕ) (p : ℕ) → position (bytes_eq n) keys ≡ Some p → IsPlaceOf fragments n p
   place_is n p at =
       let found = found_at (λ (f : NamedSet Place). bytes_eq n f.0) fragments p (sym (position-map (λ (f : NamedSet Place). f.0) (bytes_eq n) fragments) ∙ at) in

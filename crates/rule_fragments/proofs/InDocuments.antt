@@ -1,4 +1,4 @@
--- What breaks the rules on `@defer`, and behind it what breaks those on subscriptions.
+-- What breaks the rules on `@defer`, and after it what breaks those on subscriptions.
 use Rattle.std.proofs.Common.{◌≡◌, ◌↔◌, inl, inr, ◌++◌, List, [], refl, Contains}
 use Rattle.std.proofs.lemmas.List.Elements.{Contains-append_left, Contains-append_right}
 use Rattle.graphql_names.specs.Placed.{Place}
@@ -12,7 +12,7 @@ use Rattle.rule_fragments.specs.Documents.{SomeDeferBreaks, SomeSubscriptionBrea
 use Rattle.rule_fragments.proofs.UnlessFull.{as_added, adds_both, adds_first, adds_by, adds_exactly}
 
 module _ (d : MeantDocument Place) where
-  -- those on `@defer` in operations, and behind them those on labels
+  -- those on `@defer` in operations, and after them those on labels
   deferred_both : (l m : List (Broken Place)) → HasAll (SomeDeferBreaks d) l → HasAll (LabelsBreak d) m → HasAll (DeferredBreaks d) (l ++ m)
   deferred_both l m told labels f (inl h) = Contains-append_left l m f (told f h)
   deferred_both l m told labels f (inr h) = Contains-append_right l m f (labels f h)
@@ -24,7 +24,7 @@ module _ (d : MeantDocument Place) where
       (adds_by {U = HasAll (SomeDeferBreaks d)} old mid (λ f h. inl h) (λ l h. h) told)
       (adds_by {U = HasAll (LabelsBreak d)} mid new (λ f h. inr h) (λ l h. h) (adds_exactly {Right = LabelsBreak d} mid new l e (λ f c. (lists f).0 c) (λ f h. (lists f).1 h))))
 
-  -- and behind these those on subscriptions
+  -- and after these those on subscriptions
   breaches_both : (l m : List (Broken Place)) → HasAll (DeferredBreaks d) l → HasAll (SomeSubscriptionBreaks d) m → HasAll (SomeBreaks d) (l ++ m)
   breaches_both l m deferred told f (inl h) = Contains-append_right l m f (told f h)
   breaches_both l m deferred told f (inr h) = Contains-append_left l m f (deferred f h)

@@ -1,4 +1,4 @@
--- What stands in lists that are told of the elements of others.
+-- What is in lists that are made from the elements of others.
 use Rattle.std.proofs.Common.{◌≡◌, ◌⊎◌, ℕ, Bool, true, false, List, [], ◌∷◌, map, Option, None, Some, slice_get, option_to_list, refl, sym, ap, subst, ◌∙◌, inl, inr, true≢false, is_some, Contains}
 use Rattle.std.specs.Prelude.{if◌then◌else◌}
 use Rattle.std.specs.List.{flat_map, filter}

@@ -100,7 +100,7 @@ module _ {P : Type 0} (d : MeantDocument P) where
   used_there f u = fragment_there u.1.1.1.1.0 f u.1.1.1.1.1.1
 
   module _ (distinct : IsDistinct bytes_eq (keys_of d.fragments)) (own : AreUnderOwnNames d) where
-    -- each stands at its number under its name
+    -- each is at its number under its name
     pub own_number : (f : MeantFragment P) → Contains (fragments d) f → (i : ℕ) × (slice_get d.fragments i ≡ Some (f.name.it, f))
     own_number f c =
         let e : (e : List ℕ × MeantFragment P) × (Contains d.fragments e × (e.1 ≡ f)) = entry_there d.fragments f c in

@@ -21,7 +21,7 @@ use Rattle.rule_definitions.proofs.Listing.{mapped_more}
 use Rattle.rule_fragments.specs.Held.{texts_of, noted_in, AddsEntries, AddsNotes}
 use Rattle.rule_fragments.specs.Noting.{Notes}
 
--- ---- a look-up by text, after a write
+-- ---- a lookup by text, after a write
 
 one_test : {A : Type 0} (a b : Bool) (x y z : A) → a ≡ b → (if b then x else z) ≡ (if a then x else (if b then y else z))
 one_test true true x y z e = refl

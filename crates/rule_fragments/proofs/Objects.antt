@@ -31,7 +31,7 @@ object_kind kind.Union e = absurd (true≢false (sym e))
 object_kind kind.Enum e = absurd (true≢false (sym e))
 object_kind kind.InputObject e = absurd (true≢false (sym e))
 
--- an element behind the first
+-- an element after the first
 behind : {X : Type 0} (x : X) (xs : List X) (y : X) → Contains xs y → Contains (x ∷ xs) y
 behind x xs y c = Contains-append_right (x ∷ []) xs y c
 

@@ -1,4 +1,4 @@
--- Each selection inside a set stands at a position of its own.
+-- Each selection inside a set is at a position of its own.
 use Rattle.std.proofs.Common.{◌≡◌, ◌++◌, ℕ, suc, ◌≤◌, Bool, true, false, List, [], ◌∷◌, map, refl, sym, ap, subst, ◌∙◌, inl, inr, append_assoc, arith, Contains}
 use Rattle.std.specs.Prelude.{if◌then◌else◌}
 use Rattle.std.proofs.lemmas.List.{map-append}
@@ -102,7 +102,7 @@ module _ {P : Type 0} (nested : Bool) (keep : MeantSelection P → Bool) where
   apart_field true l a = a
   apart_field false l a = tt
 
-  -- one behind another
+  -- one after another
   other : (h : Position) (t : List ℕ) (i : ℕ) (s : MeantSelection P) (ss : MeantSelections P) (z : Position) → Contains (places (here nested keep h t i s)) z → Contains (places (inside_from nested keep h t (suc i) ss)) z → ⊥
   other h t i s ss z c d =
       let x = mapped_in (λ (x : Standing P). x.position) (here nested keep h t i s) z c in

@@ -1,4 +1,4 @@
--- Where fragments stand in for those of a document, rules on `@defer`, or those on the root of a subscription, break in the same way.
+-- Where fragments replace those of a document, rules on `@defer`, or those on the root of a subscription, break in the same way.
 use Rattle.std.proofs.Common.{◌≡◌, ◌⊎◌, ℕ, suc, Bool, true, false, not, List, [], ◌∷◌, map, codes, bytes_eq, Option, None, Some, slice_get, refl, sym, ap, subst, ◌∙◌, inl, inr, true≢false, is_some, Contains}
 use Rattle.std.specs.List.{list_any, filter}
 use Rattle.std.proofs.lemmas.Option.{same_Some}
@@ -135,7 +135,7 @@ module _ {P : Type 0} where
     noted : {R : Type 0} (s : MeantSelection P) → is_quiet deferred s ≡ true → has_noted deferred (selection_directives s) ≡ true → R
     noted s q n = absurd (true≢false (sym n ∙ bare s q))
 
-    -- ---- with fragments that stand in for others
+    -- ---- with fragments that replace others
 
     module _ (d w : MeantDocument P) (in' : StandIn deferred d.fragments w.fragments) where
       less : (s : MeantSelection P) (y : Standing P) → Into d s y → ((z : Standing P) × (Into w s z × Alike y z)) ⊎ Quiet y

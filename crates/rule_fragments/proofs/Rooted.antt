@@ -99,7 +99,7 @@ module _ {P : Type 0} (t : TypedDocumentTree P) (o : MeantOperation P) (start : 
       (subst (λ l. Contains l x.it) (contents_inside false all_stay (InOperation (operation_name o)) o.set ∙ ap (contents_in false all_stay) is ∙ sym (selections_contents false start))
       (in_mapped (λ (x : Standing P). x.it) (inside false all_stay (InOperation (operation_name o)) o.set) x c))
 
-  -- what a set of selections has stands in it
+  -- what a typed set selects is in the set that it means
   stands : (h : Position) (m : MeantSet P) (u : TypedSet P) → m ≡ meant_of_set u → (s : TypedSelection P) → Contains (selections_in false u) s → (x : Standing P) × (Contains (inside false all_stay h m) x × (x.it ≡ meant s))
   stands h m u e s c = mapped_in (λ (x : Standing P). x.it) (inside false all_stay h m) (meant s)
       (subst (λ l. Contains l (meant s)) (selections_contents false u ∙ ap (contents_in false all_stay) (sym e) ∙ sym (contents_inside false all_stay h m)) (in_mapped meant (selections_in false u) s c))

@@ -35,7 +35,7 @@ pub shares_none : (xs : List (List ℕ)) → share_one xs [] ≡ false
 shares_none [] = refl
 shares_none (x ∷ xs) = shares_none xs
 
--- either list may be gone through
+-- either list may be scanned
 pub shares_either : (xs ys : List (List ℕ)) → share_one xs ys ≡ share_one ys xs
 shares_either xs ys = by (share_one xs ys) refl (share_one ys xs) refl
   where

@@ -124,7 +124,7 @@ module _ (d : MeantDocument Place) (o : MeantOperation Place) (reached : List (M
   gains_applications fragments same a b c before told =
       gains_both a b c before (gains_list b c (flat_map (invalid_fragment_spread s p fragments) reached) told (lists_spreads fragments same))
 
--- of fragments that each stand on their type nothing is told, whatever types are possible
+-- of selections that apply no fragment, or one on the type of their set, nothing is told, whatever types are possible
 module _ (d : MeantDocument Place) (o : MeantOperation Place) (reached : List (Member Place)) (spread : List (MeantFragment Place)) (reach : IsReach d (own o) reached spread) (s : SchemaTree Place) (fragments : Entries (MeantFragment Place)) (same : d.fragments ≡ fragments) where
   each_stands : all_stand_on_their_types fragments reached ≡ true → (e : Member Place) → Contains reached e → stands_on_its_type d.fragments e ≡ true
   each_stands all e there =

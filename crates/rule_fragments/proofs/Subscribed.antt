@@ -62,7 +62,7 @@ module _ {P : Type 0} where
   as_many [] = refl
   as_many (x ∷ xs) = length-append (option_to_list (as_field x)) (fields_of xs) ∙ (λ k. one_field x.position x.parent x.it k + as_many xs k)
 
-  -- ---- each field stands at a place of its own
+  -- ---- each field is at a place of its own
 
   one_place : (at : Position) (t : List ℕ) (s : MeantSelection P) (p : Position) → Contains (field_places (option_to_list (field_there at t s))) p → p ≡ at
   one_place at t (MeantField q d h s) p c = only at p c
@@ -195,7 +195,7 @@ several_fields d o ss (xs, (is, (roots, apart))) own = (
 )
 
 module _ {P : Type 0} (d w : MeantDocument P) (in' : StandIn false d.fragments w.fragments) (o : MeantOperation P) where
-  -- what is told of them, where the fragments of `w` stand in for those of `d`
+  -- what is told of them, where the fragments of `w` replace those of `d`
   roots_told : (ss : List (MeantSelection P)) → AreRoots w o ss → (fault : Broken P)
       → Contains (flat_map (at_root o) ss) fault ↔ (SubscriptionUsesIntrospectionAt d o fault ⊎ SubscriptionUsesConditionalSelectionAt d o fault)
   roots_told ss (xs, (is, (roots, apart))) fault = (

@@ -43,7 +43,7 @@ module _ {A : Type 0} where
               full = inl (omega (arith, long));
             }
 
-    -- what is told stands behind nothing
+    -- what is told is what is added to an empty list
     pub as_added : (told : List A) → TellsUnlessFull Right TellsAll told → AddsUnlessFull [] told Right TellsAll
     as_added told tells = (told, (sym (room_first told ∙ take_all most_told told tells.most), (tells.right, tells.full)))
 
@@ -58,7 +58,7 @@ module _ {A : Type 0} where
   still_full mid new l is full = subst IsFull (sym (is ∙ no_room mid l full)) full
 
   module _ {Right : A → Type 0} where
-    -- nothing, and some behind others
+    -- nothing is added; below, two lists, one after the other
     pub adds_none : (TellsAll : List A → Type 0) (old : List A) → TellsAll [] → AddsUnlessFull old old Right TellsAll
     adds_none TellsAll old all = ([], (refl, (λ f c. absurd (not_in_nil f c), inr all)))
 
@@ -77,7 +77,7 @@ module _ {A : Type 0} where
       ),
     )
 
-    -- what is behind nothing is told
+    -- what is added to an empty list is what is told
     pub adds_first : {T : List A → Type 0} (old new : List A) → old ≡ [] → AddsUnlessFull old new Right T → TellsUnlessFull Right T new
     adds_first old new none (l, (e, (right, all))) = first_tells new l (e ∙ ap (λ k. k ⊕ l) none ∙ room_first l) right all
 

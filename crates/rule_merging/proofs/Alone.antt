@@ -20,7 +20,7 @@ use Rattle.rule_merging.specs.declared.operation.Examined.{Examined}
 -- ---- fields alone, beside lists
 
 module _ (lists : List (List ReadField)) (lone : List ReadField) where
-  -- what stands in the lists stands there, and so does each of the fields with itself
+  -- two fields that are in one of the lists still are; below, a field alone is in a list with itself
   stand_kept : (f g : ReadField) → StandIn lists f g → StandIn (with_alone lists lone) f g
   stand_kept f g (list, (c, both)) = (list, (Contains-append_left lists (map (λ x. x ∷ []) lone) list c, both))
 

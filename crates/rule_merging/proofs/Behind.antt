@@ -1,4 +1,4 @@
--- What stands behind what was told.
+-- What comes after the faults that were told before.
 use Rattle.std.proofs.Common.{◌≡◌, ◌++◌, List, [], ◌∷◌, length, arith, append-nil, map, Result, Ok, Err, refl, ap, sym, ◌∙◌, append_assoc}
 use Rattle.std.proofs.lemmas.List.{length-append, length-map, nil_from_length}
 use Rattle.std.specs.Result.{OnErr}

@@ -70,7 +70,7 @@ pub parts_more : (xs : List KeyGroup) (i : ℕ) (x : KeyGroup) → i < length xs
 parts_more xs i x h e =
     ap (λ l. map fields_of (parts_in l)) (taken_more xs i x h e) ∙ ap (map fields_of) (flat_push parts_of (take i xs) x) ∙ map-append fields_of (parts_in (take i xs)) (parts_of x)
 
--- what stands in a group stands in the list
+-- what is in a group is in the list
 pub group_members : (w : FieldSets) (list : List Member) (groups : List KeyGroup) (group : KeyGroup) → AreMembersOf w list → ArePartsOf list (flat_map lists_in_group groups) → Contains groups group → IsGroupOf w group
 group_members w list groups group are parts there part c m k =
     let p = parts part (given_in lists_in_group part groups group there c) in
@@ -238,14 +238,14 @@ module _ (pass : Pass) (s : Judged) (d : MeantDocument Place) where
 
   -- ---- what sets select
 
-  -- what stood in lists does so with more of them
+  -- what was in lists still is with more of them
   pub stand_more : (old new : List (List ReadField)) → HasMore old new → (x y : ReadField) → StandIn old x y → StandIn new x y
   stand_more old new more x y h = (h.0, (more h.0 h.1.0, h.1.1))
 
   pub together_more : (old new : List (List ReadField)) → HasMore old new → (x y : ReadField) → StandTogether pass s old x y → StandTogether pass s new x y
   together_more old new more x y h t = stand_more old new more x y (h t)
 
-  -- what stands in more lists stood before, or is fresh
+  -- two fields that are in one of the new lists were in one of the old ones, or are fresh
   pub moved_lists : (o : MeantOperation Place) (Left Later : ReadField → ReadField → Type 0) (old new : List (List ReadField)) → HasMore old new
       → ((f g : ReadField) → Left f g → StandTogether pass s new f g ⊎ Later f g)
       → ((f g : ReadField) → StandIn new f g → StandIn old f g ⊎ (ReadTogether pass s f g → ReadAgree pass s f g × ((x y : ReadField) → ReadBelow d f x → ReadBelow d g y → Later x y)))
@@ -265,7 +265,7 @@ module _ (pass : Pass) (s : Judged) (d : MeantDocument Place) where
   pub in_merged : (sets : Sets) (list : List Member) → IsMergedIn d sets list → (x : ReadField) → ReadSelected d (read_sets sets) x → Contains (contents_of list) x
   in_merged sets list merged x h = let e = reads_selected d sets x h in subst (Contains (contents_of list)) e.1.1 (merged.covers e.0 e.1.0)
 
-  -- any two that the sets select stand in one of the lists, if they go together
+  -- any two that the sets select are in one of the lists, if they go together
   abbrev pub SetsStand : Sets → List (List ReadField) → Type 0
   SetsStand sets lists = (x y : ReadField) → ReadSelected d (read_sets sets) x → ReadSelected d (read_sets sets) y → StandTogether pass s lists x y
 

@@ -18,7 +18,7 @@ use Rattle.rule_merging.specs.Examined.{SelectsAsMuch}
 use Rattle.rule_field_groups.proofs.NodeFacts.{read_own, read_spreads, member_selected, spread_selects}
 use Rattle.rule_merging.proofs.PairStep.{IsOpened}
 
--- what stands on the one side has one beside it on the other
+-- each element of the left list is related to one of the right list
 zip_left : {A B : Type 0} (R : A → B → Type 0) (xs : List A) (ys : List B) → AllZip R xs ys → (x : A) → Contains xs x → (y : B) × (Contains ys y × R x y)
 zip_left R [] ys h x c = not_in_nil x c
 zip_left R (x ∷ xs) [] h z c = absurd h

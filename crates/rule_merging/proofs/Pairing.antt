@@ -43,7 +43,7 @@ module _ (pass : Pass) (s : Judged) (d : MeantDocument Place) where
 
   -- ---- several, one after the other
 
-  -- where all stand in lists that were examined before
+  -- where all are in lists that were examined before
   abbrev pub AllStand : TwoFields → Kept → Type 0
   AllStand Wanted old = (p q : Member) → GoTogether pass s d Wanted p q → StandIn old.lists (content_of p) (content_of q)
 

@@ -35,7 +35,7 @@ conflicts_in_turn old one new bs place left a b =
     b ∙ ap (λ t. t ++ l) a ∙ append_assoc old (map (λ b. of_document (OfDocument b)) bs) l
     ∙ ap (λ t. old ++ t) (sym (map-append of_document (map OfDocument bs) (limit_told place left) ∙ ap (λ t. t ++ l) (breaches_told bs)))
 
--- it is empty exactly where no breach is told and no list is left
+-- it is empty exactly when no breach is told and no list is left
 pub no_conflicts : (bs : List (Broken Place)) (place : Place) (left : Bool) → bs ≡ [] → left ≡ false → conflicts_told bs place left ≡ []
 no_conflicts bs place left none ended = λ i. map OfDocument (none i) ++ limit_told place (ended i)
 
@@ -47,7 +47,7 @@ only_no_conflicts [] place false e = (refl, refl)
 only_no_conflicts [] place true e = absurd (not_empty (OfLimit place) [] e)
 only_no_conflicts (b ∷ bs) place left e = absurd (not_empty (OfDocument b) (map OfDocument bs ++ limit_told place left) e)
 
--- a value stays clean exactly where it was and nothing is added
+-- a value stays clean exactly when it was clean and nothing is added
 pub stays_exactly : (was stays left : Bool) (bs : List (Broken Place)) (place : Place) (old new : Telling) → (IsTrue stays ↔ (IsTrue was × ((bs ≡ []) × (left ≡ false))))
     → new ≡ old ++ map of_document (conflicts_told bs place left) → IsTrue stays ↔ (IsTrue was × (new ≡ old))
 stays_exactly was stays left bs place old new tests is = (

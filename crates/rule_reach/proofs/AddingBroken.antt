@@ -26,7 +26,7 @@ broken_nothing old R never = gains_nothing (brokens_of old) R never
 pub broken_one : (old new : Breaches) (x : Broken Place) → brokens_of new ≡ brokens_of old ⊕ (x ∷ []) → AddsBroken old new (λ f. f ≡ x)
 broken_one old new x e = (x ∷ [], (e, lists_one x))
 
--- one check behind another
+-- one check after another
 pub broken_both : (old next new : Breaches) (R S : Broken Place → Type 0) → AddsBroken old next R → AddsBroken next new S → AddsBroken old new (λ f. R f ⊎ S f)
 broken_both old next new R S a b = gains_both (brokens_of old) (brokens_of next) (brokens_of new) a b
 

@@ -49,7 +49,7 @@ to_map f (y ∷ xs) x c = elim (Contains-cons y xs x c) [
   | inr r ↦ Contains-rest (f y) (map f xs) (f x) (to_map f xs x r)
 ]
 
--- what stands in an option
+-- what is in an option
 from_option : {A : Type 0} (o : Option A) (x : A) → Contains (option_to_list o) x → o ≡ Some x
 from_option None x c = absurd (not_in_nil x c)
 from_option (Some y) x c = ap Some (sym (only y x c))
@@ -123,7 +123,7 @@ module _ {P : Type 0} (d : MeantDocument P) (es : Entries (Placed P (TypedFragme
     abbrev IsAllThere : TypedSet P → Type 0
     IsAllThere t = (q : Position) × ((x : Standing P) → Contains (standing_in q (meant_of_set t)) x → IsThere x)
 
-    -- so are those of what stands in one of them, and of what one of them spreads
+    -- so are those of what is in one of them, and of what one of them spreads
     all_inside : (t u : TypedSet P) (s : TypedSelection P) → IsAllThere u → Contains (own_selections u) s → Contains (inner_sets true s) t → IsAllThere t
     all_inside t u (TypedField p df h v) (q, above) own inner =
         let s = TypedField p df h v in

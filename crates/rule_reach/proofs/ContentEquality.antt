@@ -44,7 +44,7 @@ abbrev mutual
   typed_plain_all no_meant = no_typed
   typed_plain_all (meant_then s ss) = typed_then (typed_plain s) (typed_plain_all ss)
 
--- the same selection with this set in the place of its own
+-- the same selection with this set instead of its own
 abbrev with_meant_set : MeantSelection (Unit {0}) → MeantSet (Unit {0}) → MeantSelection (Unit {0})
 with_meant_set (MeantField p d h s) v = MeantField p d h v
 with_meant_set (MeantInline p c ds s) v = MeantInline p c ds v

@@ -1,4 +1,4 @@
--- Selections of a typed set, and where they stand in the set that it means.
+-- Selections of a typed set, and where they are in the set that it means.
 use Rattle.std.proofs.Common.{◌≡◌, ℕ, suc, List, refl, ap, sym, inl, inr, Contains}
 use Rattle.schema_components.proofs.Places.{not_in_nil, Contains-cons, Contains-first, Contains-rest}
 use Rattle.document_typed_selections.specs.TypedTree.{TypedSelection, TypedSet, typed_set, TypedSelections, no_typed, typed_then, set_type, typed_selections_list}

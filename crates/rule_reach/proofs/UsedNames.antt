@@ -100,7 +100,7 @@ module _ (n : List ℕ) where
 
   -- ---- selections
 
-  -- it stands in a selection itself, wherever that is
+  -- it is in a selection itself, wherever the selection is
   abbrev pub StandsHere : MeantSelection Place → Type 0
   StandsHere (MeantField p d h s) = StandsInArguments n h.arguments ⊎ StandsInDirectives n h.directives
   StandsHere (MeantSpread p m ds) = StandsInDirectives n ds

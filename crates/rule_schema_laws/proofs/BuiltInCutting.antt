@@ -15,7 +15,7 @@ abbrev pub left_by : Option Piece → List ℕ → (List ℕ → List ℕ) → L
 left_by None text more = text
 left_by (Some p) text more = more (drop p.length text)
 
--- what is behind them
+-- what is after them
 abbrev pub left : ℕ → List ℕ → List ℕ
 left zero text = text
 left (suc n) text = left_by (piece_at text) text (λ behind. left n behind)
@@ -29,7 +29,7 @@ cut_are (suc n) text = by (piece_at text) refl (λ t. cut_are n t)
     by None e more = refl
     by (Some p) e more = (e, more (drop p.length text))
 
--- pieces of a text up to a place, and those behind it
+-- pieces of a text up to a place, and those after it
 pub join : (ps qs : List Piece) (text middle behind : List ℕ) → ArePieces ps text middle → ArePieces qs middle behind → ArePieces (ps ++ qs) text behind
 join [] qs text middle behind a b = subst (λ (t : List ℕ). ArePieces qs t behind) (sym a) b
 join (p ∷ ps) qs text middle behind a b = (a.0, join ps qs (drop p.length text) middle behind a.1 b)

@@ -37,7 +37,7 @@ pub here_is : {X : Type 0} (o : Option X) (x : X) → Contains (option_to_list o
 here_is None x c = not_in_nil x c
 here_is (Some y) x c = ap Some (sym (only y x c))
 
--- what stands at some place of a list comes from an element
+-- what is at some place of a list comes from an element
 module _ {X Y : Type 0} (f : List X → X → List Y) where
   pub from_place : (xs : List X) (y : Y) → Contains (each_place f xs) y → (before : List X) × ((x : X) × (Contains xs x × Contains (f before x) y))
   from_place xs y c =

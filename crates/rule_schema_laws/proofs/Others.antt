@@ -1,4 +1,4 @@
--- A built-in scalar besides the five takes no value but null, so that it has no literal where it is required.
+-- A built-in scalar other than the five takes no value but null, so it has no literal where it is required.
 use Rattle.std.proofs.Common.{◌≡◌, ℕ, true, List, [], ◌∷◌, codes, refl, sym, ◌∙◌, inl, inr, Contains, true≢false}
 use Rattle.std.specs.List.{list_all}
 use Rattle.graphql_names.specs.Placed.{Place, Text}

@@ -62,7 +62,7 @@ module _ {P : Type 0} where
 
   module _ (variables : Variables P) where
     mutual
-      -- where no variable stands in a value, all that do are defined
+      -- where no variable is in a value, all that are in it are defined
       pub is_defined : (v : ValueTree P) → value_writable true (unplaced_value v) ≡ true → IsDefined variables v
       is_defined NullTree w = tt
       is_defined (EnumTree n) w = tt

@@ -6,6 +6,8 @@
 //!
 //! And of what is built in: `specs/BuiltInText.antt` has its table as a text of the type system definition language, which is
 //! read as the definitions that `schema_built_in` answers, apart from places (`specs/BuiltInTextReads.antt`, `built_in.rt`).
+//!
+//! Begin with `specs/Laws.antt`, then `specs/Implementing.antt` and `specs/Literals.antt`.
 #![tactic(auto)]
 
 pub mod built_in;

@@ -17,7 +17,7 @@ module _ {P : Type 0} (nested : Bool) (keep : MeantSelection P → Bool) (d : Me
   abbrev IntoFragment : Standing P → Standing P → Type 0
   IntoFragment x y = Present (spread_name x.it) (λ n. Present (fragment_named d n) (λ f. Contains (held f) y))
 
-  -- what a selection leads to stands in itself or in the fragment that it spreads
+  -- what a selection leads to is in it or in the fragment that it spreads
   field_leads : (at : Position) (t : List ℕ) (s : MeantSelection P) (y : Standing P) → nested ≡ true → Present (field_there at t s) (λ f. Contains (standing_in f.position f.set) y) → InsideOf nested keep at s y
   field_leads at t (MeantField p x h s) y n (f, (e, c)) = (n, subst (λ (g : StandingField P). Contains (standing_in g.position g.set) y) (sym (same_Some _ _ e)) c)
   field_leads at t (MeantSpread p n' ds) y n (f, (e, c)) = absurd (true≢false (sym (ap is_some e)))

@@ -1,4 +1,4 @@
--- The fragment that a selection spreads, by a look-up among those of a document.
+-- The fragment that a selection spreads, by a lookup among those of a document.
 use Rattle.std.proofs.Common.{◌≡◌, ◌++◌, Bool, true, false, ℕ, List, [], ◌∷◌, Option, None, Some, map, bytes_eq, option_to_list, refl, sym, ap, ◌∙◌, append-nil}
 use Rattle.std.specs.Prelude.{if◌then◌else◌, not}
 use Rattle.std.specs.List.{list_any}

@@ -12,7 +12,7 @@ module _ {P : Type 0} (nested : Bool) (keep : MeantSelection P → Bool) where
   abbrev pub head : Position → List ℕ → ℕ → MeantSelection P → Standing P
   head h t i s = record { position = SelectionAt h i; parent = t; it = s }
 
-  -- the selection and what stands in it
+  -- the selection and what is in it
   abbrev pub here : Position → List ℕ → ℕ → MeantSelection P → List (Standing P)
   here h t i s = if keep s then head h t i s ∷ inside_below nested keep (SelectionAt h i) s else []
 
@@ -43,7 +43,7 @@ module _ {P : Type 0} (nested : Bool) (keep : MeantSelection P → Bool) where
     contents_under at (MeantSpread p n ds) = refl
     contents_under at (MeantInline p c ds s) = contents_inside at s
 
-  -- ---- what stands in a selection itself, if that counts
+  -- ---- what is in a selection itself, if that counts
 
   abbrev pub InsideOf : Position → MeantSelection P → Standing P → Type 0
   InsideOf at (MeantField p d h s) y = (nested ≡ true) × Contains (standing_in at s) y
@@ -70,7 +70,7 @@ module _ {P : Type 0} (nested : Bool) (keep : MeantSelection P → Bool) where
   own_below at (MeantSpread p n ds) y w k = absurd w
   own_below at (MeantInline p c ds s) y w k = own_in at s y w k
 
-  -- ---- what stands in one of these is one of them
+  -- ---- what is in one of these is one of them
 
   next_here : (b : Bool) (h : Position) (t : List ℕ) (i : ℕ) (s : MeantSelection P) (x y : Standing P)
       → Contains (if b then head h t i s ∷ inside_below nested keep (SelectionAt h i) s else []) x → InsideOf x.position x.it y → keep y.it ≡ true

@@ -1,4 +1,4 @@
--- What stands in a list that is mapped, and how long it is.
+-- What is in a list that is mapped, and how long it is.
 use Rattle.std.proofs.Common.{◌≡◌, ◌++◌, suc, length, List, [], ◌∷◌, map, refl, ap, inl, inr, Contains}
 use Rattle.std.proofs.lemmas.List.Elements.{Contains-append_right}
 use Rattle.rule_cycle_search.proofs.Lists.{not_in_nil, Contains-cons, Contains-first}

@@ -62,7 +62,7 @@ pub lent_spread : (s : Selection) (n : Node FragmentSpread) → out-Selection s 
 lent_spread s n is = ap meant (typed_selection_tree_out s ∙ ap tree_here is)
 
 module _ (keep : MeantSelection Place → Bool) (s : Selection) where
-  -- what stands in a field, in an inline fragment, in a spread
+  -- what is in a field, in an inline fragment, in a spread
   pub field_contents : (n : Node Field) (f : Field) → s ≡ Field' n → f ≡ content n → contents_below true keep (lent s) ≡ contents_in true keep (meant_of_set (typed_set_tree f.selection_set))
   field_contents n f is of = ap (contents_below true keep) (lent_field s n is) ∙ ap (λ (g : Field). contents_in true keep (meant_of_set (typed_set_tree g.selection_set))) (sym of)
 
@@ -72,7 +72,7 @@ module _ (keep : MeantSelection Place → Bool) (s : Selection) where
   pub spread_contents : (n : Node FragmentSpread) → out-Selection s ≡ SpreadOf n → contents_below true keep (lent s) ≡ []
   spread_contents n is = ap (contents_below true keep) (lent_spread s n is)
 
-  -- the selection with what stands in it, where it is kept
+  -- the selection with what is in it, where it is kept
   pub kept_contents : keep (lent s) ≡ true → contents_of true keep (lent s) ≡ lent s ∷ contents_below true keep (lent s)
   kept_contents k = ap (λ b. if b then lent s ∷ contents_below true keep (lent s) else []) k
 

@@ -1,4 +1,4 @@
--- Selections by their members: what stands in a set, wherever that stands; and what the rules read of a member.
+-- Selections by their members: what is in a set, wherever the set is; and what the rules read of a member.
 use Rattle.std.proofs.Common.{◌≡◌, ℕ, suc, List, [], ◌∷◌, refl, sym, ap, subst, inl, inr, Option, None, Some, Contains, true≢false, is_some}
 use Rattle.graphql_names.specs.Placed.{Place}
 use Rattle.tree_directives.specs.DirectiveTree.{Directives}
@@ -27,7 +27,7 @@ module _ {P : Type 0} where
   abbrev pub own_members : MeantSet P → List (Member P)
   own_members (meant_set t ss) = along t ss
 
-  -- ---- what stands in a set is what are its members
+  -- ---- what is in a set, and its members
 
   in_own : (q : Position) (t : List ℕ) (i : ℕ) (ss : MeantSelections P) (x : Standing P) → Contains (stand q t i ss) x → Contains (along t ss) (member x)
   in_own q t i no_meant x c = absurd (not_in_nil x c)

@@ -105,7 +105,7 @@ module _ (s : SchemaTree Place) (n m : List ℕ) where
       by None is h = none_is g h
       by (Some x) is h = subst (λ (f : Given Place Defined). IsBuiltIn f.it) (some_is (by_definition x) g h) (meta_built_in (is_composite_kind t.kind) (is_composite_kind t.kind && is_query_root s n) m x is)
 
-  -- what the look-up finds
+  -- what the lookup finds
   pub stands : (g : Given Place Defined) → field_named s n m ≡ Some g → Stands s n m g.it
   stands g h = by (explicit_field s n m) refl h
     where

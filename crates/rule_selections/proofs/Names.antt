@@ -1,4 +1,4 @@
--- Which names are added: in a set, those of the variables that stand in it.
+-- Which names are added: for a set, those of the variables that are in it.
 use Rattle.std.proofs.Common.{◌≡◌, ◌↔◌, ◌⊎◌, inl, inr, ◌++◌, ◌<◌, ◌≤◌, ◌+◌, length, get_or, take, drop, ℕ, true, List, [], ◌∷◌, map, ap, sym, ◌∙◌, subst, Contains, bytes_eq}
 use Rattle.std.specs.List.{list_any}
 use Rattle.std.proofs.lemmas.List.Elements.{Contains-append_cases}
@@ -21,7 +21,7 @@ use Rattle.rule_selections.specs.Within.{within, within_one, within_all}
 module _ (n : List ℕ) where
   -- ---- sets, at any depth
 
-  -- it stands in a selection of a set itself, in one of sets
+  -- the variable is in a selection of the set itself; below, in one of several sets
   abbrev StandsThere : TypedSelections Place → Type 0
   StandsThere no_typed = ⊥
   StandsThere (typed_then x xs) = StandsHere n (meant x) ⊎ StandsThere xs
@@ -58,7 +58,7 @@ module _ (n : List ℕ) where
   among_either (v ∷ vs) ws (inl h) = inl (inl h)
   among_either (v ∷ vs) ws (inr h) = elim (among_either vs ws h) [ inl k ↦ inl (inr k) | inr k ↦ inr k ]
 
-  -- what stands in a set at any depth stands in it or in a set within it, and the other way round
+  -- what is in a set at any depth is in the own selections of the set or of one within it, and conversely
   mutual
     into_set : (v : TypedSet Place) → StandsInSet n (meant_of_set v) → StandsAmong (within v)
     into_set (typed_set t ss) h = elim (into_all ss h) [ inl k ↦ inl k | inr k ↦ inr k ]

@@ -1,4 +1,4 @@
--- Where others stand in for the fragments of a document, the same faults are told of an operation.
+-- Where others replace the fragments of a document, the same faults are told of an operation.
 use Rattle.std.proofs.Common.{◌≡◌, ◌↔◌, ◌⊎◌, ◌∙◌, ℕ, List, [], refl, sym, ap, subst, inl, inr, Option, None, Some, true≢false, is_some}
 use Rattle.graphql_names.specs.Placed.{Place, Text}
 use Rattle.tree_directives.specs.declared.directive_location.DirectiveLocation.TheVariants as location

@@ -1,4 +1,4 @@
--- What stands in for the fragments of a document, in maps.
+-- Fragments that replace those of a document, in maps.
 use Rattle.std.proofs.Common.{◌≡◌, ◌⊎◌, ◌∙◌, ℕ, Bool, true, false, List, [], ◌∷◌, map, refl, sym, ap, subst, inl, inr, Option, None, Some, true≢false, is_some, bytes_eq, if◌then◌else◌}
 use Rattle.std.specs.Prelude.{option_map, cond, find}
 use Rattle.std.specs.List.{AllZip}
@@ -23,7 +23,7 @@ use Rattle.rule_selections.proofs.Leaving.{leaves_same}
 abbrev pub meant_entries : List (NameValue × Node Fragment) → Entries (MeantFragment Place)
 meant_entries es = map (λ (e : List ℕ × Placed Place (TypedFragment Place)). (e.0, meant_by_fragment e.1)) (map (λ (e : NameValue × Node Fragment). (e.0.text, node_tree typed_fragment_tree e.1)) es)
 
--- the fragments of a document stand in for themselves
+-- the fragments of a document may replace themselves
 pub stand_in_same : (s : Terms) (fragments : Entries (MeantFragment Place)) → StandIn s fragments fragments
 stand_in_same s fragments = record { there = λ n g is. (g, (is, (refl, (leaves_same s g.set, λ m u. u)))); absent = λ n is. is }
 

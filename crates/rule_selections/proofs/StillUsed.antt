@@ -1,4 +1,4 @@
--- Where others stand in for the fragments of a document, operations use the same variables still.
+-- Where others replace the fragments of a document, operations still use the same variables.
 use Rattle.std.proofs.Common.{◌≡◌, ◌⊎◌, ◌∙◌, ℕ, suc, List, refl, sym, ap, subst, inl, inr, Option, None, Some, Contains, true≢false, is_some}
 use Rattle.graphql_names.specs.Placed.{Place}
 use Rattle.schema_components.specs.Names.{Entries}
@@ -16,7 +16,7 @@ use Rattle.rule_selections.proofs.Elsewhere.{member, at, along, own_members, to_
 use Rattle.rule_selections.proofs.Leaving.{look_stays}
 use Rattle.rule_selections.proofs.Instead.{Other, reached_less, spreads_none}
 
--- the variable stands in a selection itself, wherever that is
+-- the variable is in a selection itself, wherever the selection is
 abbrev pub Stands : List ℕ → Look → Type 0
 Stands n l = StandsInDirectives n l.directives ⊎ Present l.field (λ f. StandsInArguments n f.head.arguments)
 
@@ -29,7 +29,7 @@ module _ (n : List ℕ) where
   stands_within t (MeantInline p c ds v) (inl u) = inl u
   stands_within t (MeantInline p c ds v) (inr (f, (is, u))) = absurd (true≢false (sym (ap is_some is)))
 
-  -- in a set stands what stands in a member of it
+  -- what is in a member of a set is in the set
   stands_along : (t : List ℕ) (ss : MeantSelections Place) (e : Member Place) → Contains (along t ss) e → StandsWithin n e.1 → StandsAlong n ss
   stands_along t no_meant e c u = absurd (not_in_nil e c)
   stands_along t (meant_then x xs) e c u = elim (Contains-cons (t, x) (along t xs) e c) [
@@ -46,7 +46,7 @@ module _ (s : Terms) (d : MeantDocument Place) (instead : Entries (MeantFragment
 
   -- ---- where what is reached stands: in the operation, or in a fragment that is spread with the others too
 
-  -- z stands in the fragment that x spreads
+  -- z is in the fragment that x spreads
   abbrev IsSpread : MeantSelection Place → Standing Place → Type 0
   IsSpread x z = (m : List ℕ) × ((g : MeantFragment Place) × ((spread_name x ≡ Some m) × ((under m d.fragments ≡ Some g) × Contains (own_members g.set) (member z))))
 
@@ -67,7 +67,7 @@ module _ (s : Terms) (d : MeantDocument Place) (instead : Entries (MeantFragment
     same_leads q (MeantInline pl k ds v) z (inr (inl c)) = let u = of_members q v (member z) (to_members p v z c) in inl (u.0, (inr (inl u.1.0), u.1.1))
     same_leads q (MeantInline pl k ds v) z (inr (inr (m, (named, rest)))) = absurd (true≢false (sym (ap is_some named)))
 
-    -- what stands in what a selection leads to stands in it, but for a spread
+    -- where x leads to z, what is in z is in x, or x spreads the fragment that z is in
     stands_above : (n : List ℕ) (x : MeantSelection Place) (z : Standing Place) → LeadsInto d (at p (t, x)) z → (StandsWithin n z.it → StandsWithin n x) ⊎ IsSpread x z
     stands_above n (MeantField pl df h v) z (inl (f, (same, c))) =
         let old : StandingField Place = record { position = p; parent = t; place = pl; definition = df; head = h; set = v } in
@@ -86,7 +86,7 @@ module _ (s : Terms) (d : MeantDocument Place) (instead : Entries (MeantFragment
     abbrev IsOwn : Standing Place → Type 0
     IsOwn x = (y : Standing Place) × (Reached Else o y × (member y ≡ member x))
 
-    -- what stands in x stands in a fragment that is spread by what is reached with the others
+    -- a selection reached with the other fragments spreads a fragment that has what is in x
     abbrev IsWithin : Standing Place → Type 0
     IsWithin x = (m : List ℕ) × ((g : MeantFragment Place) × ((under m d.fragments ≡ Some g) × ((y : Standing Place) × (Reached Else o y × ((spread_name y.it ≡ Some m) × (StandsWithin n x.it → StandsInSet n g.set))))))
 
@@ -106,7 +106,7 @@ module _ (s : Terms) (d : MeantDocument Place) (instead : Entries (MeantFragment
       ]
     ]
 
-    -- ---- what stands in a fragment that is reached is used
+    -- ---- what is in a fragment that is reached is used
 
     abbrev IsUsed : Type 0
     IsUsed = AtReached Else o (λ x. Stands n (look (member x)))

@@ -32,7 +32,7 @@ module _ (s : SchemaTree Place) (parent : NameValue) (n : Node Field) (f : Field
   same_name : f.name.text ≡ (content n).name.text
   same_name = ap (λ (g : Field). g.name.text) is
 
-  -- the document's own copy of the definition says the same, places aside
+  -- the document's own copy of the definition says the same, apart from places
   same_definition : IsDefined s (standing_field parent n) → unplaced_field_definition (field_definition_tree (content c.node)) ≡ (standing_field parent n).definition
   same_definition typed = some_is _ _ (
       sym (ap (option_map (plain_given unplaced_field_definition)) found)

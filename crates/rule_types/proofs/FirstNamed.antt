@@ -1,4 +1,4 @@
--- The first argument of a name, where one more argument stands behind.
+-- The first argument of a name, where one more argument comes after.
 use Rattle.std.proofs.Common.{◌≡◌, ℕ, Bool, true, false, List, [], ◌∷◌, ◌++◌, Option, None, Some, refl, if◌then◌else◌}
 use Rattle.std.specs.Option.{option_or}
 use Rattle.std.specs.Str.{bytes_eq}

@@ -42,7 +42,7 @@ module _ (s : SchemaTree Place) where
       (tells_entries (Is s) type_seen s.types distinct.types (judged s).type_named (type_look s) (type_faults s) (λ n t g. Among t.implements (λ i. InterfaceBreaks (judged s) g n t i)) (λ n t there.
       says_interfaces s n t there (distinct.parts (n, t) (under_given n s.types t there)) (λ m over is_there. distinct.parts (m, over) (under_given m s.types over is_there)))))
 
--- what is told behind other faults
+-- what is told after other faults
 pub told_behind : (s : SchemaTree Place) → AreAllDistinct s → (types : List (NameValue × ExtendedType)) → s.types ≡ map (λ e. (name_text e.0, extended_type e.1)) types
     → (old new : List PlacedFault) → new ≡ old ⊕ types_faults s types → (added : List PlacedFault) × ((new ≡ old ⊕ added) × ((f : PlacedFault) → Contains added f ↔ Told s InterfacesBreak f))
 told_behind s distinct types are old new is = (types_faults s types, (is, says_all s distinct types are))

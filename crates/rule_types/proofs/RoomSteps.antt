@@ -1,4 +1,4 @@
--- Faults that are told one behind the other, and where there is no room.
+-- Faults that are told one after the other, and where there is no room.
 use Rattle.std.proofs.lemmas.Grind.{common_steps}
 use Rattle.fault_data.proofs.Room.{room_both, no_room}
 

@@ -108,7 +108,7 @@ module _ (s : SchemaTree Place) where
   abbrev all_roots : List (OperationType × Text Place)
   all_roots = roots_of s.definition.query s.definition.mutation s.definition.subscription
 
-  -- each stands at the place of its operation's root
+  -- each is at the place of its operation's root
   root_stands : (x : OperationType × Text Place) → Contains all_roots x → x.1.place ≡ place_at s (RootAt x.0)
   root_stands x c = elim (Contains-append_cases (rooted operation.Query s.definition.query) _ x c) [
     | inl h ↦ of_one operation.Query s.definition.query refl h

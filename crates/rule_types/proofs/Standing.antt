@@ -1,4 +1,4 @@
--- What stands under a name in a schema, and what is known of the arguments of a field that stands in a type of it.
+-- What is under a name in a schema, and what is known of the arguments of a field of one of its types.
 use Rattle.std.proofs.Common.{◌≡◌, ℕ, ◌<◌, List, map, length, get_or, Contains, Option, None, Some, IfSome, Bor, sym, ap, subst, ◌∙◌}
 use Rattle.std.proofs.lemmas.List.{get_or-map, length-map}
 use Rattle.std.proofs.lemmas.List.Elements.{Contains-get_or}

@@ -1,4 +1,4 @@
--- What is a subtype by a schema's look-ups is one by what rules read of it.
+-- What is a subtype by a schema's lookups is one by what rules read of it.
 use Rattle.std.proofs.Common.{◌≡◌, ℕ, Bool, false, ◌&&◌, ◌||◌, List, map, refl, ap, ◌∙◌, Option, None, Some}
 use Rattle.std.specs.Option.{option_map, option_map_or}
 use Rattle.graphql_names.specs.Placed.{Place}

@@ -13,7 +13,7 @@ use Rattle.rule_values.proofs.Tells.{Tells, tells_both}
 pub adds_told : (old new : Vec Fault Global) (l : List PlacedFault) (R : PlacedFault → Type 0) → Tells l R → faults_of new ≡ faults_of old ⊕ l → Adds old new R
 adds_told old new l R tells e = (l, (e, tells))
 
--- one check behind another
+-- one check after another
 pub adds_both : (old next new : Vec Fault Global) (R Q : PlacedFault → Type 0) → Adds old next R → Adds next new Q → Adds old new (λ f. R f ⊎ Q f)
 adds_both old next new R Q (l, (is, tells)) (m, (is', tells')) =
     (l ++ m, (is' ∙ ap (λ k. k ⊕ m) is ∙ room_both (faults_of old) l m, tells_both l m R Q tells tells'))

@@ -113,7 +113,7 @@ module _ {V Y : Type 0} (tells : List ℕ → V → List Y) (R : List ℕ → V 
         by true t = no_true (sym other ∙ (bytes_eq-Decides e.0 m).1 (sym ((bytes_eq-Decides m e.0).0 t)))
         by false t = refl
 
-    -- a name is the first one, or it is behind that
+    -- a name is that of the first entry, or of one after it
     abbrev Here : Y → Type 0
     Here f = (is_key e.0 before ≡ false) × R e.0 e.1 f
 

@@ -15,7 +15,7 @@ use Rattle.fault_data.specs.in_rule_definitions.PlacedFaults.{PlacedFault}
 use Rattle.rule_values.specs.KeyFaults.{repeated_key, repeated_keys, key_faults, key_faults_items, key_faults_entries}
 use Rattle.rule_values.proofs.Tells.{no_true, no_some, Tells, tells_same, tells_both, tells_nothing, tells_one, tells_present}
 
--- ---- what stands at an index of two lists, one behind the other
+-- ---- what is at an index of two lists, one after the other
 
 module _ {X : Type 0} where
   pub at_end : (xs ys : List X) (y : X) → slice_get (xs ++ y ∷ ys) (length xs) ≡ Some y
@@ -38,7 +38,7 @@ module _ {X : Type 0} (name : X → List ℕ) where
   abbrev first_named : List X → List ℕ → Option X
   first_named xs n = find (λ x. bytes_eq (name x) n) xs
 
-  -- the first of the name stands at an index, and none before it has the name
+  -- the first of the name is at an index, and none before it has the name
   first_at : (xs : List X) (n : List ℕ) (x : X) → first_named xs n ≡ Some x → (i : ℕ) × ((slice_get xs i ≡ Some x) × ((name x ≡ n) × IsFirst name xs n i))
   first_at [] n x e = cc
   first_at (y ∷ xs) n x e = by (bytes_eq (name y) n) (bytes_eq-Decides (name y) n) (first_at xs n x) e

@@ -1,4 +1,4 @@
--- Faults that are told one behind the other.
+-- Faults that are told one after the other.
 use Rattle.std.proofs.lemmas.Grind.{common_steps}
 use Rattle.fault_data.proofs.Room.{room_both}
 

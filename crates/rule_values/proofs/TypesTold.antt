@@ -158,7 +158,7 @@ module _ (s : SchemaTree Place) (variables : Variables Place) where
     items_told ty q (item_then p v ts) =
         tells_both _ _ (Breaks (wanted ty q) p v) _ (whole_told ty q p v (λ t. inner_faults s variables ty q t v) (inner_told ty q v)) (items_told ty q ts)
 
-    -- behind entries with these keys
+    -- after entries with these keys
     entries_told : (n : List ℕ) (t : SchemaType Place) (there : type_at s n ≡ Some t) (before names : List (List ℕ)) → SameKeys before names → (es : EntryTrees Place)
         → Tells (entry_faults s variables t names es) (TypeBreaksEntries (place_at s) (judged s) variables n (type_looks (plain_type t)) before es)
     entries_told n t there before names same no_entries = tells_nothing _ (λ f h. h)

@@ -1,4 +1,4 @@
--- Names among those of keys; and where variables stand in a selection itself.
+-- Names among those of keys; and where variables are in a selection itself.
 use Rattle.std.proofs.Common.{◌≡◌, ◌↔◌, inl, inr, ℕ, Bool, true, false, ◌||◌, List, [], ◌∷◌, map, refl, ap, sym, ◌∙◌, subst, true≢false, is_some, Contains, bytes_eq}
 use Rattle.std.specs.List.{list_any}
 use Rattle.std.proofs.lemmas.List.Elements.{Contains-append_right}

@@ -14,7 +14,7 @@ use Rattle.schema_building.specs.declared.refusal.BuilderRefusal.TheVariants as 
 use Rattle.schema_building.proofs.Numbering.{count_append, count_one, count_none}
 
 module _ (d : DefinitionTree Place) (old new : TextsView) where
-  -- what stands behind the others once d is added, and the number behind its own
+  -- what comes after the others once d is added, and the number after its own
   abbrev added_here : NumberedDefinition
   added_here = record { definition = d; extension = if is_extension d then Some (record { number = old.next; place = definition_place d }) else None }
 
@@ -63,7 +63,7 @@ adds_then a b c xs ys one two first ds is = subst (λ l. IsListOf first l c) (ap
 have_fewer : (first : ℕ) (xs ys : Definitions) → extension_count xs ≤ extension_count ys → HaveNumbers first ys → HaveNumbers first xs
 have_fewer first xs ys h have some = let within = have (omega (arith, h, some)) in omega (arith, h, within)
 
--- what is refused behind others of a list is refused of the list
+-- what is refused after others of a list is refused of the list
 pub refusal_more : (start now : TextsView) (before : Definitions) (d : DefinitionTree Place) (rest : Definitions) → AddsDefinitions before start now
     → (r : BuilderRefusal) → IsListRefusal (d ∷ []) now r → IsListRefusal (before ++ d ∷ rest) start r
 refusal_more start now before d rest adds refusal.Memory h = tt

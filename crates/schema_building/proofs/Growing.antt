@@ -7,7 +7,7 @@ module _ {X Y : Type 0} (view : X → Y) (xs : List X) (i : ℕ) (x : X) (h : i 
   pub front : map view (take (i + 1) xs) ≡ map view (take i xs) ++ view x ∷ []
   front = map_more view xs i x h ∙ ap (λ y. map view (take i xs) ++ view y ∷ []) (sym is)
 
-  -- the whole list: those before, this one and those behind
+  -- the whole list: those before, this one and those after
   pub split : map view xs ≡ map view (take i xs) ++ view x ∷ map view (drop (i + 1) xs)
   split =
       ap (map view) (sym (take-append-drop i xs) ∙ at_drop_more (λ r. take i xs ++ r) xs i x h ∙ ap (λ y. take i xs ++ y ∷ drop (i + 1) xs) (sym is))

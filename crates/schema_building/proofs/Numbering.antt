@@ -34,7 +34,7 @@ count_one d h = ap (λ b. length (cond b (d ∷ []) [])) h
 pub count_none : (d : DefinitionTree Place) → is_extension d ≡ false → extension_count (d ∷ []) ≡ 0
 count_none d h = ap (λ b. length (cond b (d ∷ []) [])) h
 
--- numbers of definitions behind others
+-- numbers of definitions after others
 abbrev pub numbered_after : ℕ → Definitions → Definitions → List NumberedDefinition
 numbered_after first = each_place_after (λ b d. listed_after first b d ∷ [])
 

@@ -35,7 +35,7 @@ no_schema_extension : list_any (λ d. is_some (schema_extension_here d)) built_i
 unfolding built_in_definitions
 no_schema_extension = refl
 
--- behind definitions the numbers of which go on, and behind what is built in
+-- definitions without extensions after numbered ones, and numbered ones after what is built in
 plain_behind : (first : ℕ) (xs ys : Definitions) → list_any is_extension ys ≡ false → numbered first xs ++ map unnumbered ys ≡ numbered first (xs ++ ys)
 plain_behind first xs ys none = ap (λ l. numbered first xs ++ l) (sym (after_none first xs ys none)) ∙ sym (after_append first [] xs ys)
 
@@ -231,7 +231,7 @@ adopted_behind true ds =
     let schema = schema_if (has_orphan_schema built_in_definitions (with_types built_in_definitions ds)) in
     ap (take (length ds)) (append_assoc ds types schema) ∙ take_at ds (types ++ schema) (length ds) refl
 
--- where none is passed over, the texts are the first of what stands behind what is built in
+-- where none is passed over, the texts' definitions are the first of those after what is built in
 pub texts_first : (s : Settings) → s.ignores ≡ false → (first built_in : ℕ) (ds : Definitions) (list : List NumberedDefinition) → list ≡ numbered first (built_in_definitions ++ settled built_in_definitions s ds)
     → built_in ≡ length built_in_definitions → take (length ds) (definitions_of (drop built_in list)) ≡ ds
 texts_first s none first built_in ds list is many =

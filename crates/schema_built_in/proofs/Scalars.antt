@@ -1,4 +1,4 @@
--- A type of a name is looked up in the table: it is a scalar exactly where a row of a scalar has the name.
+-- A type of a name is looked up in the table: it is a scalar exactly when a row of a scalar has the name.
 use Rattle.std.proofs.Common.{◌≡◌, ℕ, Bool, true, false, not, ◌&&◌, ◌||◌, cond, List, [], ◌∷◌, ◌++◌, Some, refl, sym}
 use Rattle.std.specs.Option.{option_map_or}
 use Rattle.std.specs.List.{find, list_any, list_all}

@@ -68,7 +68,7 @@ module _ {X : Type 0} (name : X → List ℕ) where
     keys_made [] = refl
     keys_made (x ∷ xs) = ap (λ m. m ∷ map key (map made xs)) (key-made x) ∙ ap (λ l. name x ∷ l) (keys_made xs)
 
-    -- what a look-up in the map answers
+    -- what a lookup in the map answers
     pub is_some-firsts : (n : List ℕ) (es : List (NameValue × V)) (xs : List X) → map view es ≡ map made (firsts name xs) → is_some (lookup (λ k. bytes_eq n k.text) es) ≡ has_name name n xs
     is_some-firsts n es xs is =
         is_some-lookup (λ k. bytes_eq n k.text) es ∙ any_key n es ∙ ap (λ l. is_among n (map key l)) is

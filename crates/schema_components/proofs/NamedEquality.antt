@@ -54,7 +54,7 @@ module _ {K : Type 0} (text : K → List ℕ) where
   cond_map f true x o = refl
   cond_map f false x o = refl
 
-  -- a look-up by a key is one by its text
+  -- a lookup by a key is one by its text
   pub find-lookup : {X V : Type 0} (f : X → V) (k : K) (es : List (K × X)) → option_map f (lookup (same_text text k) es) ≡ find by_bytes (text k) (named_entries f es)
   find-lookup f k [] = refl
   find-lookup f k (e ∷ es) = cond_map f (same_text text k e.0) e.1 _ ∙ (λ i. cond (texts_ties (text k) (text e.0) i) (Some (f e.1)) (find-lookup f k es i))

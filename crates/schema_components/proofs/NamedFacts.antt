@@ -56,6 +56,6 @@ other_order = (98 ∷ [], 2) ∷ (97 ∷ [], 1) ∷ []
 two_orders : fin.from_entries {R = by_bytes} one_order ≡ fin.from_entries other_order
 two_orders = same_sorted one_order other_order refl
 
--- a look-up, by computation
+-- a lookup, by computation
 one_look_up : fin.get (fin.from_entries {R = by_bytes} one_order) (98 ∷ []) ≡ Some 2
 one_look_up = fin.get-from_entries nat_list_cmp_total one_order (98 ∷ [])

@@ -1,4 +1,4 @@
--- What look-ups and walks over maps and sets with names as keys say of the finite maps and sets.
+-- What lookups and walks over maps and sets with names as keys say of the finite maps and sets.
 use Rattle.std.proofs.Common.{◌≡◌, ℕ, Bool, true, false, cond, ◌&&◌, ◌||◌, List, [], ◌∷◌, map, None, Some, refl, sym, ap, subst, ◌∙◌, true≢false, is_some}
 use Rattle.std.specs.Bool.{Decides}
 use Rattle.std.specs.List.{list_any, list_all, IsDistinct, AllByRecursion}
@@ -27,7 +27,7 @@ both_so : (a b : Bool) → a ≡ true → b ≡ true → (a && b) ≡ true
 both_so a b p q = (λ i. p i && b) ∙ q
 
 module _ {K : Type 0} (text : K → List ℕ) where
-  -- a look-up by a key
+  -- a lookup by a key
   pub get-named : {X A V S : Type 0} (u : A → V) (g : X → A) (m : IndexMap K X S) (k : K) → fin.get (named u (entries_of text g m)) (text k) ≡ option_map (λ x. u (g x)) (get (same_text text) m k)
   get-named {X} {A} {V} u g m k =
       let f : X → V = λ x. u (g x) in

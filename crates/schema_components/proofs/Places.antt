@@ -31,7 +31,7 @@ module _ {X : Type 0} where
   pub Contains-rest : (x : X) (xs : List X) (y : X) → Contains xs y → Contains (x ∷ xs) y
   Contains-rest x xs y h = Contains-append_right (x ∷ []) xs y h
 
--- what stands in the list that f gives was given at some place
+-- what is in the list that f gives was given at some place
 module _ {X Y : Type 0} (f : List X → X → List Y) where
   found_after : (before xs : List X) (y : Y) → Contains (each_place_after f before xs) y → AtSomePlace (λ b x. Contains (f (before ++ b) x) y) xs
   found_after before [] y h = absurd (not_in_nil y h)

@@ -15,7 +15,7 @@ use Rattle.schema_fold.specs.Collected.{AllComponents, class_from, collected, co
 use Rattle.schema_fold.specs.declared.collected.Collected.{Collected}
 use Rattle.schema_fold.specs.declared.parts.Parts.{Parts as PartsRef}
 
--- a tree in the place of a content
+-- what was given, with a tree instead of the content
 abbrev pub grown : {A B : Type 0} → (A → B) → Given Place (Placed Place A) → Given Place (Placed Place B)
 grown f g = record { extension = g.extension; it = record { it = f g.it.it; place = g.it.place } }
 
@@ -45,7 +45,7 @@ Parts = Given Place (TypeParts Place)
 class-push : {A : Type 0} (of : TypeParts Place → List A) (gs : List Parts) (g : Parts) → class_from of (gs ++ g ∷ []) ≡ class_from of gs ++ all_given g.extension (of g.it)
 class-push of gs g = flat_map-push (λ h. all_given h.extension (of h.it)) gs g
 
--- the components of parts behind others
+-- the components of parts after others
 pub collected_push : (gs : List Parts) (g : Parts) → collected_from (gs ++ g ∷ []) ≡ collected_and (collected_from gs) g
 collected_push gs g = λ i. record {
   directives = class-push (λ p. p.directives) gs g i;

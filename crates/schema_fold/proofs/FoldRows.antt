@@ -1,4 +1,4 @@
--- Lists that fold and are written out, by computation, behind the built-in scalars.
+-- Lists that fold and are written out, by computation, after the built-in scalars.
 use Rattle.std.proofs.Common.{◌≡◌, ℕ, List, [], ◌∷◌, codes, refl, None}
 use Rattle.tree_directives.specs.declared.directive_location.DirectiveLocation.TheVariants as at
 use Rattle.tree_directives.specs.declared.operation_type.OperationType.TheVariants as operation
@@ -18,12 +18,12 @@ query = codes "Query"
 abbrev written_of : Definitions → Definitions
 written_of ds = written (fold built_in_scalars 1 ds)
 
--- an extension in front of its definition is written behind it
+-- an extension before its definition is written after it
 extension_in_front : written_of (extend_object query [] [] (field (codes "b") int ∷ []) ∷ object query [] [] (field (codes "a") int ∷ []) ∷ [])
     ≡ object query [] [] (field (codes "a") int ∷ []) ∷ extend_object query [] [] (field (codes "b") int ∷ []) ∷ []
 extension_in_front = refl
 
--- extensions of one type stand in the order in which they first appear among directives, interfaces and fields
+-- extensions of one type are in the order in which they first appear among directives, interfaces and fields
 abbrev five_extensions : Definitions
 five_extensions =
     extend_object query [] [] (field (codes "withArg") (codes "String") ∷ [])

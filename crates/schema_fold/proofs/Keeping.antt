@@ -79,7 +79,7 @@ module _ {X : Type 0} (key : X → List ℕ) (note : X → BuildFault) where
         → faults' ≡ start ++ map note (repeats key xs')
     names_told_on kept kept' start faults faults' is was step = told_more xs x start faults faults' was (step xs is).1 ∙ ap (λ l. start ++ map note (repeats key l)) (sym front)
 
--- five lists behind a first one
+-- five lists after a first one
 pub behind : {F : Type 0} (a b c d e f p q r s t : List F) → b ≡ a ++ p → c ≡ b ++ q → d ≡ c ++ r → e ≡ d ++ s → f ≡ e ++ t → f ≡ a ++ (p ++ (q ++ (r ++ (s ++ t))))
 behind a b c d e f p q r s t hb hc hd he hf =
     hf ∙ ap (λ l. l ++ t) he ∙ append_assoc d s t

@@ -40,7 +40,7 @@ module _ {X Y : Type 0} (f : X → Y) (key : Y → List ℕ) where
   pub firsts-map : (xs : List X) → firsts key (map f xs) ≡ map f (firsts (λ x. key (f x)) xs)
   firsts-map xs = firsts_after [] xs
 
--- ---- the parts of what stands in a list
+-- ---- the parts of what is in a list
 
 abbrev parts_name : TypeParts Place → List ℕ
 parts_name p = p.name.it

@@ -38,7 +38,7 @@ module _ {V : Type 0} where
       by true t h rest = ap (λ c. cond c (Some w) (lookup (test name) es)) t
       by false t h rest = ap (λ c. cond c (Some e.1) (lookup (test name) (set_value (test name) es w))) t ∙ rest h
 
-  -- behind an entry of another name, and of the name itself
+  -- an entry is added at the end: of another name, and of the name itself
   pushed_other : (n : List ℕ) (name : NameValue) (w : V) → bytes_eq n name.text ≡ false → (es : List (NameValue × V)) → lookup (test n) (es ++ (name, w) ∷ []) ≡ lookup (test n) es
   pushed_other n name w other [] = ap (λ c. cond c (Some w) None) other
   pushed_other n name w other (e ∷ es) = ap (λ o. cond (bytes_eq n e.0.text) (Some e.1) o) (pushed_other n name w other es)
@@ -61,7 +61,7 @@ module _ {V X : Type 0} (of : V → List X) (es new : List (NameValue × V)) (it
   abbrev AddsTo : List ℕ → Type 0
   AddsTo name = (n : List ℕ) → listed (lookup (test n) new) ≡ listed (lookup (test n) es) ++ (if bytes_eq n name then item ∷ [] else [])
 
-  -- behind those that stand under it
+  -- an item is added after those under the name
   pub added_behind : (name : List ℕ) (v w : V) → lookup (test name) es ≡ Some v → of w ≡ of v ++ item ∷ [] → new ≡ set_value (test name) es w → AddsTo name
   added_behind name v w found added is n = ap (λ l. listed (lookup (test n) l)) is ∙ by (bytes_eq n name) refl
     where

@@ -3,6 +3,8 @@
 //! For the layers above: the state of a schema builder keeps such an index of what was added to it
 //! (`schema_building`), and types are folded from it (`schema_fold_types`). What it has is stated by positions
 //! in the whole list (`specs/Index.antt`).
+//!
+//! Begin with `index.rt` and `specs/Index.antt`.
 #![tactic(auto)]
 
 mod index;

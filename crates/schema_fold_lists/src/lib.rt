@@ -2,6 +2,8 @@
 //!
 //! For the layer above: `fold_list` folds a list with what is built in at its front; `specs/ListBuilt.antt` says what it
 //! returns, by the definitions of the fold (`schema_fold`).
+//!
+//! Begin with `fold.rt` and `specs/ListBuilt.antt`.
 #![tactic(auto)]
 
 mod fold;

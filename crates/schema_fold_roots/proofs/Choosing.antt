@@ -98,7 +98,7 @@ module _ (own : Entries Directive) (es : List (NameValue × Node DirectiveDefini
   pub chooses_new : (new : Entries Directive) → is_some (lookup (λ k. bytes_eq (directive_name x) k.text) es) ≡ false → new ≡ map entry_view es ++ made x ∷ [] → Chooses own (x ∷ []) (map entry_view es) new
   chooses_new new absent added before is = kept_new directive_name entry_view made entry_key (λ e. refl) (λ y. refl) es before x new is absent added
 
--- what a look-up in a map answers
+-- what a lookup in a map answers
 pub lookup_viewed : (n : List ℕ) (es : List (NameValue × Node DirectiveDefinition)) → lookup (bytes_eq n) (map entry_view es) ≡ option_map directive_view (lookup (λ k. bytes_eq n k.text) es)
 lookup_viewed n [] = refl
 lookup_viewed n (e ∷ es) = by (bytes_eq n e.0.text) (lookup_viewed n es)
@@ -117,7 +117,7 @@ folded_is built_in texts =
     (λ i. map (λ d. (directive_name d, chosen_is texts d i)) (firsts directive_name (directives_in built_in ++ directives_in texts)))
     ∙ ap (λ l. map (λ d. (directive_name d, chosen_directive texts d)) (firsts directive_name l)) (sym (directives_append built_in texts))
 
--- what a look-up among the texts' definitions chooses
+-- what a lookup among the texts' definitions chooses
 pub own_found : (es : List (NameValue × Node DirectiveDefinition)) (d : Directive) (o : Option (Node DirectiveDefinition)) → o ≡ lookup (λ k. bytes_eq (directive_name d) k.text) es
     → option_map_or (λ z. z) (option_map directive_view o) d ≡ chosen_of (map entry_view es) d
 own_found es d o is = ap (λ p. option_map_or (λ z. z) p d) (ap (option_map directive_view) is ∙ sym (lookup_viewed (directive_name d) es))

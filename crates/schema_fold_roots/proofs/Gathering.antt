@@ -25,7 +25,7 @@ pub flat_map-push : {A B : Type 0} (f : A → List B) (xs : List A) (x : A) → 
 flat_map-push f [] x = append-nil (f x)
 flat_map-push f (y ∷ ys) x = ap (λ l. f y ++ l) (flat_map-push f ys x) ∙ sym (append_assoc (f y) (flat_map f ys) (f x))
 
--- those of parts behind others
+-- those of parts after others
 pub all_push : (gs : List Parts) (g : Parts) → all_from (gs ++ g ∷ []) ≡ all_and (all_from gs) g
 all_push gs g = λ i. record {
   directives = flat_map-push (λ h. all_given h.extension h.it.directives) gs g i;
@@ -45,7 +45,7 @@ collects_then a b c xs ys first second gs is = second (gs ++ xs) (first gs is) �
 pub collects_more : (a b c : AllOfSchema) (ls : List NumberedDefinition) (l : NumberedDefinition) → CollectsParts a (flat_map extends_schema ls) b → CollectsParts b (extends_schema l) c → CollectsParts a (flat_map extends_schema (ls ++ l ∷ [])) c
 collects_more a b c ls l first second gs is = collects_then a b c (flat_map extends_schema ls) (extends_schema l) first second gs is ∙ ap (λ m. all_from (gs ++ m)) (sym (flat_map-push extends_schema ls l))
 
--- three lists behind one, as what was given
+-- three lists after one, as what was given
 pub three_given : {A : Type 0} (e : Option (ExtensionTree Place)) (a b c d : List (Given Place A)) (p q r : List A)
     → b ≡ a ++ all_given e p → c ≡ b ++ all_given e q → d ≡ c ++ all_given e r → d ≡ a ++ all_given e (p ++ (q ++ r))
 three_given {A} e a b c d p q r hb hc hd =

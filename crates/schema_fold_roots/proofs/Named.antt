@@ -32,7 +32,7 @@ module _ {X : Type 0} (key : X → List ℕ) where
       by true rest = refl
       by false rest = rest
 
-  -- one behind others, by whether it is of the name, and whether one of them has its name
+  -- one is added after others, by whether it is of the name, and whether one of them has its name
   pub find_other : (n : List ℕ) (before : List X) (x : X) → named n x ≡ false → find (named n) (before ++ x ∷ []) ≡ find (named n) before
   find_other n before x other = find-append (named n) before (x ∷ []) ∙ ap (λ b. option_or (find (named n) before) (cond b (Some x) None)) other ∙ or_none (find (named n) before)
 

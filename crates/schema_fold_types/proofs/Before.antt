@@ -33,7 +33,7 @@ module _ (n : List ℕ) (i : ℕ) where
   more : (before : Definitions) (d : DefinitionTree Place) → length (before ++ d ∷ []) ≡ length before + 1
   more before d = length-append before (d ∷ [])
 
-  -- behind i none stands before it
+  -- a definition at place i or later adds none before i
   first_behind : (place : ℕ) (o : Option (TypeDefinition Place)) (behind : List StandingParts) → i ≤ place → first_before behind ≡ false → first_before (standing_here place o ++ behind) ≡ false
   first_behind place None behind h rest = rest
   first_behind place (Some t) behind h rest = by (bytes_eq n (type_name t))

@@ -36,7 +36,7 @@ module _ (extensions : List ℕ → List NumberedDefinition) where
   abbrev tell : TypeDefinition Place → List BuildFault
   tell t = faults_of_type (extensions (type_name t)) t
 
-  -- no more definitions, and some more behind others
+  -- no more definitions, and some more after others
   pub folds_none : (types : Types) (faults : List BuildFault) → FoldsOn extensions [] types faults types faults
   folds_none types faults before start is was =
       (is ∙ ap (types_by extensions) (sym (append-nil before)), was ∙ ap (λ ts. start ++ faults_by extensions ts) (sym (append-nil before)))

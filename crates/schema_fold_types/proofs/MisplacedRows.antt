@@ -1,4 +1,4 @@
--- What is told of small lists, by computation, behind the built-in scalars.
+-- What is told of small lists, by computation, after the built-in scalars.
 use Rattle.std.proofs.Common.{◌≡◌, ℕ, List, [], ◌∷◌, map, codes, refl}
 use Rattle.tree_operations.specs.in_directives.declared.operation_type.OperationType.TheVariants as operation
 use Rattle.schema_fold_index.specs.in_fold.NumberedDefinition.{Definitions}

@@ -96,7 +96,7 @@ pub is_absent : {A : Type 0} (o : Option A) → is_some o ≡ false → o ≡ No
 is_absent None e = refl
 is_absent (Some a) e = cc
 
--- what a look-up in the map answers
+-- what a lookup in the map answers
 pub lookup_entry : (n : List ℕ) (es : List (NameValue × TypeKind)) → lookup (bytes_eq n) (map kind_entry es) ≡ lookup (λ k. bytes_eq n k.text) es
 lookup_entry n [] = refl
 lookup_entry n (e ∷ es) = ap (λ o. cond (bytes_eq n e.0.text) (Some e.1) o) (lookup_entry n es)

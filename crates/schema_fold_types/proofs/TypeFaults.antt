@@ -236,7 +236,7 @@ module _ {X Y : Type 0} (g : X → List Y) where
     | inr r ↦ Contains-append_right (g z) (flat_map g zs) y (to_flat_map zs x y r k)
   ]
 
--- a first one stands in the list
+-- a first one is in the list
 first_stands : {X : Type 0} (key : X → List ℕ) (xs : List X) (x : X) → Contains (firsts key xs) x → Contains xs x
 first_stands {X} key xs x h = stands (found_at cond_here xs x h)
   where
@@ -351,6 +351,6 @@ module _ (built_in texts : Definitions) (first : ℕ) (f : BuildFault) where
   named_full (breach.InputFieldNameCollision t n) h = input_field_name_collision h
   named_full _ h = absurd h
 
-  -- a fault is told exactly where the rule that its breach names is broken so
+  -- a fault is told exactly when the rule that its breach names is broken so
   pub rules_tell : Contains (faults_of_types first all) f ↔ ComponentRule built_in texts first f.breach f
   rules_tell = (λ h. named_sound (types_sound h), λ h. types_full (named_full f.breach h))

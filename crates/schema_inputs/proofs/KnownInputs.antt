@@ -21,7 +21,7 @@ module _ {X Y : Type 0} (R : X → Y → Type 0) where
   each_more (z ∷ xs) [] x y e h r = absurd (omega (arith, e))
   each_more (z ∷ xs) (w ∷ ys) x y e h r = (h.0, each_more xs ys x y (omega (arith, e)) h.1 r)
 
-  -- what stands at one index fits
+  -- the elements at one index fit
   pub each_at : (xs : List X) (ys : List Y) (i : ℕ) (x : X) (y : Y) → AreEach R xs ys → slice_get xs i ≡ Some x → slice_get ys i ≡ Some y → R x y
   each_at [] ys i x y h e f = absurd (true≢false (sym (ap is_some e)))
   each_at (z ∷ xs) [] i x y h e f = absurd (true≢false (sym (ap is_some f)))

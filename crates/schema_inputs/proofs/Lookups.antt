@@ -1,4 +1,4 @@
--- What look-ups in maps with names as keys find, by index too, and what is known of it.
+-- What lookups in maps with names as keys find, by index too, and what is known of it.
 use Rattle.std.proofs.Common.{◌≡◌, ℕ, Bool, true, false, List, [], ◌∷◌, map, slice_get, Option, None, Some, IfSome, refl, sym, ap, subst, ◌∙◌, if◌then◌else◌, Bor}
 use Rattle.std.specs.List.{find}
 use Rattle.std.specs.Map.{lookup}

@@ -1,4 +1,4 @@
--- What was noted first under each name: of one more, and by look-ups.
+-- What was noted first under each name: of one more, and by lookups.
 use Rattle.std.proofs.Common.{◌≡◌, ℕ, zero, suc, ◌+◌, ◌<◌, ◌≤◌, ltb, Bool, true, false, List, [], ◌∷◌, ◌++◌, map, take, length, get_or, slice_get, find, bytes_eq, Bor, Option, None, Some, refl, sym, ap, subst, ◌∙◌, if◌then◌else◌, arith, true≢false, is_some}
 use Rattle.std.specs.Option.{option_map, option_or, option_and_then, option_copied, IfSome}
 use Rattle.std.proofs.lemmas.List.{map-append, take_more}
@@ -32,7 +32,7 @@ module _ {X : Type 0} (name : X → List ℕ) where
   noted_more tell old new k v xs x named told puts are n =
       puts n ∙ (λ i. option_or (are n i) (if bytes_eq (named i) n.text then Some (told i) else None)) ∙ sym (told_push tell xs x n.text)
 
-  -- ---- look-ups
+  -- ---- lookups
 
   told_after : {U V : Type 0} (g : U → V) (tell : ℕ → X → U) (xs : List X) (n : List ℕ) → first_told name (λ i x. g (tell i x)) xs n ≡ option_map g (first_told name tell xs n)
   told_after g tell [] n = refl
@@ -53,7 +53,7 @@ module _ {X : Type 0} (name : X → List ℕ) where
       by true rest = refl
       by false rest = rest
 
-  -- the first of the name stands at its index
+  -- the first of the name is at its index
   pub number_found : (xs : List X) (n : List ℕ) → option_and_then (λ i. slice_get xs i) (first_told name (λ i x. i) xs n) ≡ find (λ x. bytes_eq (name x) n) xs
   number_found [] n = refl
   number_found (x ∷ xs) n = by (bytes_eq (name x) n) (number_found xs n)
@@ -67,7 +67,7 @@ module _ {X : Type 0} (name : X → List ℕ) where
       by true rest = refl
       by false rest = ap (λ o. option_and_then (λ i. slice_get (x ∷ xs) i) o) (told_after suc (λ i x. i) xs n) ∙ over (first_told name (λ i x. i) xs n) ∙ rest
 
-  -- none of the name of what stands at an index is before it, if that is the number of the name
+  -- if a number is that of a name, no element before that index has the name
   pub number_first : (xs : List X) (j : ℕ) (n : List ℕ) → first_told name (λ i x. i) xs n ≡ Some j → find (λ x. bytes_eq (name x) n) (take j xs) ≡ None
   number_first [] j n e = absurd (true≢false (sym (ap is_some e)))
   number_first (x ∷ xs) zero n e = refl
@@ -82,7 +82,7 @@ module _ {X : Type 0} (name : X → List ℕ) where
       by true rest e = cc
       by false rest e = rest (lower (first_told name (λ i x. i) xs n) (sym (told_after suc (λ i x. i) xs n) ∙ e))
 
-  -- what stands at an index has this number, if none of its name is before it
+  -- the element at an index has this number, if no element before it has its name
   pub number_here : (xs : List X) (j : ℕ) (x : X) → slice_get xs j ≡ Some x → find (λ y. bytes_eq (name y) (name x)) (take j xs) ≡ None → first_told name (λ i y. i) xs (name x) ≡ Some j
   number_here [] j x e none = absurd (true≢false (sym (ap is_some e)))
   number_here (y ∷ xs) zero x e none = ap (λ b. if b then Some 0 else first_told name (λ i y. suc i) xs (name x)) ((bytes_eq-Decides (name y) (name x)).1 (ap name (same_Some _ _ e)))

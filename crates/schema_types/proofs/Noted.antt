@@ -21,7 +21,7 @@ and-true : (b : Bool) → (b && true) ≡ b
 and-true true = refl
 and-true false = refl
 
--- a number is among the notes exactly where its text is
+-- a number is among the notes exactly when its text is
 same_test : (n : ℕ) (es : List ExtensionId) → list_any (λ e. n == number_of e) es ≡ has_name key (n ∷ []) es
 same_test n [] = refl
 same_test n (e ∷ es) = λ i. sym (and-true (n == number_of e)) i || same_test n es i

@@ -14,7 +14,7 @@ use Rattle.schema_types.specs.declared.type_kind.TypeKind.TheVariants.{Object}
 abbrev pub is_object : ExtendedType → Bool
 is_object t = same_kind (extended_type t).kind Object
 
--- whether a look-up finds an object
+-- whether a lookup finds an object
 pub found_object : (name : List ℕ) (es : List (NameValue × ExtendedType)) → is_object_named (map (λ e. (name_text e.0, extended_type e.1)) es) name ≡ option_map_or is_object (lookup (λ k. bytes_eq name k.text) es) false
 found_object name [] = refl
 found_object name (e ∷ es) = by (bytes_eq name e.0.text) (found_object name es)

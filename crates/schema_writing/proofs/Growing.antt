@@ -18,7 +18,7 @@ use Rattle.schema_writing.specs.ContentsView.{parts_view, filed_parts}
 use Rattle.schema_writing.specs.declared.parts.FiledType.{FiledType}
 use Rattle.schema_writing.specs.declared.parts.Parts.{Parts}
 
--- a tree in the place of a content
+-- what is at a place, with a tree instead of the content
 abbrev pub grown : {A B : Type 0} → (A → B) → Placed Place A → Placed Place B
 grown f p = record { it = f p.it; place = p.place }
 

@@ -1,4 +1,4 @@
--- The derived `==` of the members of types decides whether their trees are the same, places aside.
+-- The derived `==` of the members of types decides whether their trees are the same, apart from places.
 use Rattle.std.proofs.Common.{◌≡◌, ap}
 use Rattle.std.specs.Bool.{Decides}
 use Rattle.tree_operations.specs.Placed.{text_tree, unplaced_text}

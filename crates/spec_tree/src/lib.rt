@@ -2,6 +2,8 @@
 //!
 //! `specs/DefinitionTree.antt` has the trees, `specs/Queries.antt` what is asked; `tree_definitions` has the enum that they are
 //! seen of, and `schema_types` what schemas keep of them.
+//!
+//! Begin with `specs/DefinitionTree.antt`, then `specs/Queries.antt`.
 #![tactic(auto)]
 
 // Re-exported from the crates below, for the crates above.

@@ -1,4 +1,4 @@
--- The derived `==` of definitions and documents decides whether they are the same, places and sources aside.
+-- The derived `==` of definitions and documents decides whether they are the same, apart from places and sources.
 use Rattle.std.proofs.Common.{◌≡◌}
 use Rattle.std.specs.Bool.{Decides}
 use Rattle.graphql_names.specs.Node.{content}

@@ -1,4 +1,4 @@
--- The derived `==` of each tree decides whether the trees are the same, places aside.
+-- The derived `==` of each tree decides whether the trees are the same, apart from places.
 use Rattle.std.proofs.Common.{◌≡◌, ◌&&◌, ap, nat_eq}
 use Rattle.std.specs.Bool.{Decides}
 use Rattle.std.specs.Option.{option_map}

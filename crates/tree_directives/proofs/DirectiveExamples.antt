@@ -41,7 +41,7 @@ definition_in_line : directive_definition_text None (record (directive_definitio
 unfolding joined
 definition_in_line = refl
 
--- directives stand behind the arguments, each after a space
+-- directives come after the arguments, each after a space
 directed_in_line : directive_definition_text None (record (directive_definition (input None (codes "x") ∷ [])) { directives = applied; repeatable = true }) 0 ≡ codes "directive @d(x: I) @a @b(x: 1) repeatable on FIELD"
 unfolding joined
 directed_in_line = refl

@@ -50,7 +50,7 @@ without_minus-digits : (ds : List ℕ) → is_digits ds ≡ true → without_min
 without_minus-digits [] h = cc
 without_minus-digits (d ∷ ds) h = ap (λ b. cond b ds (d ∷ ds)) (not_digit 45 d refl (first_digit d ds h))
 
--- an Int token is a numeral behind its sign
+-- an Int token is a numeral after its sign
 pub numeral-int : (text : List ℕ) → IsIntValue text → IsNumeral 10 (without_leading_sign text)
 numeral-int [] h = cc
 numeral-int (c ∷ cs) h = by (c == 45) refl

@@ -51,7 +51,7 @@ cut-other p q c cs none =
     ap (λ b. (p [] && q (c ∷ cs)) || b) (followed_by-none (λ ds. p (c ∷ ds)) q none cs)
     ∙ or_false (p [] && q (c ∷ cs))
 
--- only digits before, no digit first behind: the one place to cut is where the digits end
+-- the first part has only digits and the second begins with none: the one place to cut is where the digits end
 pub followed_by-digits : (p q : List ℕ → Bool) → ((ys zs : List ℕ) (y : ℕ) → is_ascii_digit y ≡ false → p (ys ++ (y ∷ zs)) ≡ false) → ((y : ℕ) (ys : List ℕ) → is_ascii_digit y ≡ true → q (y ∷ ys) ≡ false) → (text : List ℕ) → followed_by p q text ≡ (p (take (prefix_len is_ascii_digit text) text) && q (drop (prefix_len is_ascii_digit text) text))
 followed_by-digits p q only starts [] = refl
 followed_by-digits p q only starts (c ∷ cs) =
@@ -142,7 +142,7 @@ fraction-end bs ds es n r e front back h =
     ∙ ap (λ k. is_digits (take k bs) && (is_nothing (drop k bs) || is_exponent (drop k bs))) e
     ∙ sym (fraction_cut bs)
 
--- a Float is cut behind its sign and where the digits of its integer end
+-- a Float is cut after its sign and where the digits of its integer end
 pub float-text : (text us ds es : List ℕ) (n : ℕ) (r : Bool) → us ≡ without_minus text → n ≡ prefix_len is_ascii_digit us → ds ≡ take n us → es ≡ drop n us → r ≡ (is_natural ds && is_float_tail es) → r ≡ is_float_value text
 float-text text us ds es n r sign e front back h =
     h

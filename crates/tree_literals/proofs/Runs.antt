@@ -54,7 +54,7 @@ raw_front (suc n) (b ∷ s) l h = rw (raw_byte b (h 0 (omega arith))) (ap (λ x.
 pub first_escape-at : (n : ℕ) (s : List ℕ) → n < length s → ((k : ℕ) → k < n → must_escape (get_or s k 0) ≡ false) → must_escape (get_or s n 0) ≡ true → FirstEscape s n
 first_escape-at n s l h e = record { within = l; here = e; parts = rw add-one (raw_front n s l h) }
 
--- the same where the parts go by other names
+-- the same where the parts have other names
 pub escape_parts : (rest run bytes next : List ℕ) (i : ℕ) → FirstEscape rest i → run ≡ take i rest → bytes ≡ rest → next ≡ drop (i + 1) rest → escaped_text rest ≡ run ++ (escaped_byte (get_or bytes i 0) ++ escaped_text next)
 escape_parts rest run bytes next i f p q r = rw (p, q, r) f.parts
 
@@ -104,7 +104,7 @@ first_quotes-at n s l h e =
 pub quotes_parts : (rest run next : List ℕ) (i : ℕ) → FirstQuotes rest i → run ≡ take i rest → next ≡ drop (i + 3) rest → block_escaped rest ≡ run ++ (codes "\\\"\"\"" ++ block_escaped next)
 quotes_parts rest run next i f p r = rw (p, r) f.parts
 
--- a text may be cut behind its first """
+-- a text may be cut after its first """
 pub quotes_boundary : (text : List ℕ) (i : ℕ) → IsUtf8 text → FirstQuotes text i → IsCharBoundary text (i + 3)
 quotes_boundary text i u f =
     let third : i + 2 + 1 ≡ i + 3 = omega arith in

@@ -1,4 +1,4 @@
--- `==` of arguments, directives and their definitions says whether their trees are the same, places aside.
+-- `==` of arguments, directives and their definitions says whether their trees are the same, apart from places.
 use Rattle.std.proofs.Common.{◌≡◌, Bool, refl, ap}
 use Rattle.std.specs.Bool.{Decides}
 use Rattle.std.specs.Cmp.{booleans_Decides}

@@ -1,4 +1,4 @@
--- `==` of operations, fragments and variables' definitions says whether their trees are the same, places aside.
+-- `==` of operations, fragments and variables' definitions says whether their trees are the same, apart from places.
 use Rattle.std.proofs.Common.{◌≡◌, Bool, ap}
 use Rattle.std.specs.Bool.{Decides}
 use denote.Enum.Bare.{same_true, true_same}

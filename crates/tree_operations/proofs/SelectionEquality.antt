@@ -1,4 +1,4 @@
--- `==` of selections says whether their trees are the same, places aside.
+-- `==` of selections says whether their trees are the same, apart from places.
 use Rattle.std.proofs.Common.{◌≡◌, Bool, List, [], ◌∷◌, map, refl, ap, sym, ◌∙◌, subst, None}
 use Rattle.std.specs.Bool.{Decides}
 use Rattle.std.specs.Cmp.Lexicographic.{pointwise}
@@ -38,7 +38,7 @@ inline_eq = inline.ghosts.eq
 abbrev pub spread_eq : FragmentSpread → FragmentSpread → Bool
 spread_eq = spread.ghosts.eq
 
--- two fields, spreads, inline fragments are the same, places aside
+-- two fields, spreads, inline fragments are the same, apart from places
 abbrev pub SameField : Field → Field → Type 0
 SameField d e = unplaced_selection (field_tree None d) ≡ unplaced_selection (field_tree None e)
 

@@ -1,4 +1,4 @@
--- `==` of two references to types says whether their trees are the same, places aside.
+-- `==` of two references to types says whether their trees are the same, apart from places.
 use Rattle.std.proofs.Common.{◌≡◌, Bool, refl, ap, ◌∙◌, subst}
 use Rattle.std.specs.Bool.{Decides}
 use Rattle.tree_directives.specs.in_literals.in_names.Placed.{Place, name_tree}

@@ -1,4 +1,4 @@
--- `==` of two values says whether their trees are the same, places aside.
+-- `==` of two values says whether their trees are the same, apart from places.
 use Rattle.std.proofs.Common.{◌≡◌, Bool, ◌&&◌, List, [], ◌∷◌, map, refl, ap, sym, ◌∙◌, subst, nat_eq}
 use Rattle.std.specs.Bool.{Decides}
 use Rattle.std.specs.Cmp.{booleans_Decides}

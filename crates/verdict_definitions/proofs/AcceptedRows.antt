@@ -171,7 +171,7 @@ fields_merge = record {
 merges : Merging found alone
 merges o c = subst (λ w. FieldsMerge found alone w) (sym (only only_field o c)) fields_merge
 
--- ---- and no bound is passed: nothing stands in the field
+-- ---- and no bound is passed: the field has no selections
 
 never_closed : {X A : Type 0} {Next : X → X → Type 0} (x : X) → Closed (Contains []) Next x → A
 never_closed x (first c) = not_in_nil x c

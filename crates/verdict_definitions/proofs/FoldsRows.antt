@@ -36,7 +36,7 @@ module _ {X : Type 0} (x : X) where
   tail [] = []
   tail (z ∷ zs) = zs
 
-  -- what stands in a list of one
+  -- what is in a list of one
   at_one : (P : List X → X → Type 0) → AtSomePlace P (x ∷ []) → P [] x
   at_one P ([], (y, ((after, e), p))) = let same : x ≡ y = cc in subst (P []) (sym same) p
   at_one P (z ∷ zs, (y, ((after, e), p))) = absurd (not_behind zs after y (ap tail e))

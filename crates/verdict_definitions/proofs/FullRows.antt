@@ -1,4 +1,4 @@
--- Documents of which one rule on documents, or on merging, is broken: no other fault is so, those aside that are told in part.
+-- Documents that break one rule on documents, or on merging, and no other, apart from rules of which only some breaches may be told.
 use Rattle.std.proofs.Common.{◌≡◌, ◌⊎◌, ◌+◌, ◌^◌, ◌<◌, [], ◌∷◌, codes, bytes_eq, None, Some, Contains, refl, sym, ap, subst, ◌∙◌, inl, inr, true≢false, arith}
 use Rattle.std.proofs.Props.{props}
 use Rattle.std.specs.Prelude.{is_some}

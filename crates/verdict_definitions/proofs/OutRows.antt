@@ -1,4 +1,4 @@
--- What is written of small lists of definitions, behind all that is built in. All parts stand at one place of a text.
+-- What is written of small lists of definitions, after all that is built in. All parts are at one place of a text.
 use Rattle.std.proofs.Common.{◌≡◌, ℕ, false, List, [], ◌∷◌, map, codes, Option, None, Some, refl}
 use Rattle.graphql_names.specs.Placed.{Place, Placed, Text}
 use Rattle.schema_built_in.specs.Table.{built_in_definitions}
@@ -77,7 +77,7 @@ not_implicit : line_of (schema_of_query ∷ query_of (field (codes "m") (codes "
 unfolding built_in_definitions place_in joined
 not_implicit = refl
 
--- S `extend type Query { b: Int } type Query { a: Int }`: an extension in front stands behind its type
+-- S `extend type Query { b: Int } type Query { a: Int }`: an extension before its type is written after it
 in_front : line_of (extend_object (codes "Query") (b ∷ []) ∷ query_of (a ∷ []) ∷ []) ≡ codes "type Query { a: Int } extend type Query { b: Int }"
 unfolding built_in_definitions place_in joined
 in_front = refl
@@ -97,13 +97,13 @@ schema_extended : line_of (query_of (field (codes "field") (codes "Int") ∷ [])
 unfolding built_in_definitions place_in joined
 schema_extended = refl
 
--- S `extend scalar ID @d directive @d on SCALAR type Query { a: Int }`: an extension of a built-in type stands on its own
+-- S `extend scalar ID @d directive @d on SCALAR type Query { a: Int }`: an extension of a built-in type is written alone
 built_in_extended : line_of (ExtendScalar here (record { name = word (codes "ID"); directives = use_of (codes "d") ∷ [] }) ∷ directive (codes "d") [] (at.Scalar ∷ []) ∷ query_of (a ∷ []) ∷ [])
     ≡ codes "directive @d on SCALAR extend scalar ID @d type Query { a: Int }"
 unfolding built_in_definitions place_in joined
 built_in_extended = refl
 
--- S `directive @skip(if: Boolean!) on FIELD | FRAGMENT_SPREAD | INLINE_FRAGMENT type Query { a: Int }`: a definition in the place of a built-in one is written
+-- S `directive @skip(if: Boolean!) on FIELD | FRAGMENT_SPREAD | INLINE_FRAGMENT type Query { a: Int }`: a definition that replaces a built-in one is written
 abbrev if_boolean : Placed Place (InputValueTree Place)
 if_boolean = node (record { description = None; name = word (codes "if"); ty = node (NonNullNamedTree (word (codes "Boolean"))); default_value = None; directives = [] })
 

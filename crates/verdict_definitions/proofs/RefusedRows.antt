@@ -99,7 +99,7 @@ twice_reads = reads 500 1 twice twice_tree refl
 abbrev twice_fault : folding.BuildFault
 twice_fault = record { place = place_in 1 20 26; breach = folding.ObjectFieldNameCollision (codes "Query") (codes "a") }
 
--- `Query` is the fourteenth type, behind thirteen built-in ones
+-- `Query` is the fourteenth type, after thirteen built-in ones
 twice_fails : FoldingFails terms (twice_tree ∷ []) twice_fault
 unfolding built_in_definitions
 twice_fails = folding.object_field_name_collision (

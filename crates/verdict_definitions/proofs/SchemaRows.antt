@@ -1,4 +1,4 @@
--- Every rule on schemas holds of S `type Query { field: Int }`, behind all that is built in.
+-- Every rule on schemas holds of S `type Query { field: Int }`, after all that is built in.
 use Rattle.std.proofs.Common.{arith, ◌≡◌, ◌<◌, ℕ, count_by, Bool, true, false, not, ◌&&◌, ◌||◌, List, [], ◌∷◌, codes, Option, None, Some, is_some, ◌⊎◌, refl, sym, ap, subst, ◌∙◌, inl, inr, true≢false}
 use Rattle.std.specs.List.{list_all}
 use Rattle.std.specs.Cmp.{first_so, second_so}

@@ -9,7 +9,7 @@ use Rattle.verdict_definitions.specs.Texts.{SourceText, Tree, ReadsText, documen
 use Rattle.verdict_definitions.proofs.RowReading.{reader, reads}
 use Rattle.verdict_definitions.proofs.RowTrees.{terms, named, field_definition, object, extend_object, use_of, directive, field, short_query}
 
--- the document behind no schema text, one, and two, where texts are counted from 1
+-- the document after no schema text, one, and two, where texts are counted from 1
 no_schema_text : document_number terms [] ≡ 1
 no_schema_text = refl
 

@@ -115,7 +115,7 @@ last_number passed = omega (arith, passed)
 no_number : PassesNumbers (2 ^ 64 - 1)
 no_number = omega arith
 
--- the document behind one schema text, whose number is the last one
+-- the document after one schema text, whose number is the last one
 spent_said : (text : SourceText) → UnreadFault 500 (2 ^ 64 - 1) text spent
 spent_said text = inr (refl, no_number)
 

@@ -1,4 +1,4 @@
--- Where no folding rule is broken no component is repeated, so that all types are written as they stood.
+-- Where no folding rule is broken no component is repeated, so all types are written unchanged.
 use Rattle.std.proofs.Common.{◌≡◌, ℕ, Bool, true, false, List, [], ◌∷◌, ◌++◌, map, flat_map, Option, Some, None, refl, ap, subst, ◌∙◌, if◌then◌else◌, append_assoc, option_to_list, Contains}
 use Rattle.graphql_names.specs.Placed.{Place}
 use Rattle.schema_components.specs.Lists.{each_place_after, firsts, has_name, IsRepeated}
@@ -141,6 +141,6 @@ module _ (built_in : Definitions) (first : ℕ) (texts : Definitions) (rules : F
       Each-with IsDefinition (HasNoRepeats list) defined (Each-firsts type_name IsDefinition [] (types_in ds) (types_defined ds))
       (λ t c is. by_kind t.parts.kind t refl c (folded_of_kind list is.0 t is.1))
 
-  -- the types of an accepted list are written as they stood in it
+  -- the types of an accepted list are written as they are in it
   pub types_whole : flat_map written_type (folded_types first ds) ≡ flat_map (whole_type ds) defined
   types_whole = written_each first ds defined all_no_repeats

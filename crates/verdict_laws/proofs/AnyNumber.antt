@@ -76,7 +76,7 @@ out_same ds =
     ∙ ap (λ l. l ++ map unplaced_definition (filter is_fragment_definition ds)) (map-append unplaced_definition (filter is_anonymous ds) (filter is_named_operation ds))
     ∙ (λ i. (passes_same is_anonymous is_anonymous anonymous_same ds i ++ passes_same is_named_operation is_named_operation named_same ds i) ++ passes_same is_fragment_definition is_fragment_definition fragment_same ds i)
 
--- definitions that are the same, places aside, have the same text
+-- definitions that are the same, apart from places, have the same text
 pub text_same : (layout : Layout) (ds es : Tree) → map unplaced_definition ds ≡ map unplaced_definition es → document_text layout 0 ds ≡ document_text layout 0 es
 text_same layout ds es same = document_same layout 0 ds ∙ ap (document_text layout 0) same ∙ sym (document_same layout 0 es)
 

@@ -59,7 +59,7 @@ verdicts_of_cut terms texts others same = answered terms texts others (cutting t
 -- ---- schemas
 
 module _ (terms : Terms) (texts others : List SourceText) (a b : CheckedSchemaValue) (is_a : IsCheckedSchemaOf terms texts a) (is_b : IsCheckedSchemaOf terms others b) where
-  -- the schemas at hand, and what is written, are those of the texts
+  -- the schemas for documents, and what is written, are those of the texts
   hands : AreEqual (schema_at_hand terms is_a.accepted.judged.trees) (schema_at_hand terms is_b.accepted.judged.trees) → AreEqual a.schema b.schema
   hands h = subst (λ s. AreEqual s b.schema) (sym is_a.at_hand) (subst (AreEqual (schema_at_hand terms is_a.accepted.judged.trees)) (sym is_b.at_hand) h)
 

@@ -42,7 +42,7 @@ in_some : {A : Type 0} → A → Option A → A
 in_some d None = d
 in_some d (Some x) = x
 
--- where a writer tells what it holds, what it took is behind what it held
+-- where a writer tells what it holds, what it took comes after what it held
 put_behind : (old new : Option (List ℕ)) (held put bytes : List ℕ) → old ≡ Some held → new ≡ Some (held ++ put) → Appends old new bytes → bytes ≡ put
 put_behind old new held put bytes before after appends =
     let both : Appends (Some held) (Some (held ++ put)) bytes = subst (λ (p : Option (List ℕ) × Option (List ℕ)). Appends p.0 p.1 bytes) (λ i. (before i, after i)) appends in

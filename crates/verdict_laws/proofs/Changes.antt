@@ -1,5 +1,5 @@
--- What is made of parts, and what is written of it, goes with a change of places, of what stands in trees and of the numbers of extensions,
--- that keeps names and which extensions are one.
+-- A change of places, of what is in trees and of the numbers of extensions, that keeps names and which extensions are one, changes what
+-- is made of parts, and what is written of it, in the same way.
 use Rattle.std.proofs.Common.{◌≡◌, ℕ, Bool, true, false, not, ◌==◌, ◌&&◌, ◌||◌, List, [], ◌∷◌, ◌++◌, map, filter, find, bytes_eq, is_none, is_some, refl, sym, ap, ◌∙◌, Option, None, Some, option_map, option_to_list, if◌then◌else◌}
 use Rattle.std.specs.List.{flat_map}
 use Rattle.std.proofs.lemmas.List.{map-append}

@@ -54,7 +54,7 @@ out_depth ds =
     let c = passing_depth is_fragment_definition ds in
     omega (arith, whole, operations, a, b, c)
 
--- ---- the way back
+-- ---- the written document, read back
 
 module _ (schema other : SchemaTree Place) (equal : AreEqual schema other) (nesting number again : ℕ) (left : IsNumber again) (document : SourceText) (first : IsDocumentAccepted schema nesting number document) (layout : Layout) (plain_layout : IsPlainLayout layout) (text : SourceText) (is : IsLaidOutText layout (OutDoc first.judged.tree) text) where
   abbrev read : Tree

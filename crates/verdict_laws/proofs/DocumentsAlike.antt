@@ -1,4 +1,4 @@
--- Documents are read alike, and so a text has under each number the same tree, places aside.
+-- Documents are read alike, and so a text has under each number the same tree, apart from places.
 use Rattle.std.proofs.Common.{◌≡◌, ℕ, List, Option, ◌⊎◌, inl, inr, refl}
 use Rattle.std.specs.Option.{option_map}
 use Rattle.graphql_names.specs.Placed.{Text, unplaced_text}

@@ -27,7 +27,7 @@ use Rattle.rule_definitions.proofs.KeptFacts.{IsReferenced, referenced_decides}
 use Rattle.verdict_laws.specs.Judging.{EqualAfterValidation}
 use Rattle.schema_fold.proofs.in_schema_types.UnderNames.{get_under}
 
--- ---- look-ups
+-- ---- lookups
 
 module _ {V : Type 0} where
   under-append : (n : List ℕ) (xs ys : Entries V) → under n (xs ++ ys) ≡ option_map_or (λ v. Some v) (under n xs) (under n ys)

@@ -1,4 +1,4 @@
--- Two accepted lists of schema texts, or two documents, have one written text exactly where the same definitions are written.
+-- Two accepted lists of schema texts, or two documents, have one written text exactly when the same definitions are written.
 use Rattle.std.specs.Prelude.{◌↔◌}
 use Rattle.std.proofs.Common.{◌≡◌, ◌≢◌, true, List, [], ◌∷◌, sym, ap, ◌∙◌}
 use Rattle.std.specs.List.{list_all}

@@ -1,4 +1,4 @@
--- Lemmas on a printed text with a line feed behind it: it reads as it does without.
+-- Lemmas on a printed text with a line feed after it: it reads as it does without.
 use Rattle.std.proofs.Common.{◌≡◌, ℕ, ◌+◌, true, List, [], ◌∷◌, ◌++◌, codes, None, length, refl, subst, le_refl}
 use Rattle.std.specs.List.{list_all}
 use Rattle.graphql_names.specs.Placed.{Place}

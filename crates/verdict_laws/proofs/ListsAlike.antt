@@ -24,7 +24,7 @@ pub own_marked : {A B : Type 0} (mark : A → Bool) (blind : A → B) (xs : List
 own_marked mark blind [] h = refl
 own_marked mark blind (x ∷ xs) h = λ i. (h.0 i, blind x) ∷ own_marked mark blind xs h.1 i
 
--- behind the same definitions
+-- after the same definitions
 pub marked_behind : {A M : Type 0} (marked : A → M) (here : DefinitionTree Place → Option A) (front ds es : Definitions)
     → map marked (flat_map (λ d. option_to_list (here d)) ds) ≡ map marked (flat_map (λ d. option_to_list (here d)) es)
     → map marked (flat_map (λ d. option_to_list (here d)) (front ++ ds)) ≡ map marked (flat_map (λ d. option_to_list (here d)) (front ++ es))

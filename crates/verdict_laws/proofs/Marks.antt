@@ -180,7 +180,7 @@ inputs_unmarked (v ∷ vs) h = λ i. (v.it.name.it, (h.0 i, [])) ∷ inputs_unma
 parts_unmarked : (p : TypeParts Place) → ArePartsElsewhere p → marked p ≡ unmarked (unplaced_parts p)
 parts_unmarked p h = λ i. record { kind = p.kind; name = p.name.it; fields = fields_unmarked p.fields h.fields i; values = values_unmarked p.values h.values i; inputs = inputs_unmarked p.inputs h.inputs i }
 
--- behind the same definitions
+-- after the same definitions
 module _ {A M : Type 0} (here : DefinitionTree Place → Option A) (mark : A → M) (test : A → Bool) where
   abbrev of_sort : Definitions → List A
   of_sort ds = filter test (flat_map (λ d. option_to_list (here d)) ds)

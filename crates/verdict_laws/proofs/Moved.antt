@@ -1,4 +1,4 @@
--- What stands somewhere in a list stands somewhere in one that is rearranged, behind the same of its sort.
+-- What is somewhere in a list is somewhere in one that is rearranged, after the same elements of its sort.
 use Rattle.std.proofs.Common.{◌≡◌, ℕ, Bool, true, false, ◌||◌, cond, List, [], ◌∷◌, ◌++◌, map, filter, find, slice_get, bytes_eq, is_some, Contains, refl, sym, ap, ◌∙◌, Some, true≢false, if◌then◌else◌, inl, inr}
 use Rattle.std.proofs.lemmas.List.{map-append}
 use Rattle.std.proofs.lemmas.List.Elements.{filter-append}
@@ -9,7 +9,7 @@ use Rattle.schema_fold.proofs.in_components.Places.{not_in_nil, Contains-cons}
 use Rattle.verdict_laws.proofs.Gathered.{every}
 
 module _ {X Y : Type 0} (f : X → Y) where
-  -- where an element stands among those of a sort, it stands in the list
+  -- an element that is among those of a sort is in the list
   pub record Placed_so (sort : X → Bool) (xs : List X) (before : List Y) (y : Y) : Type 0 where
     pub front : List X
     pub it : X

@@ -23,7 +23,7 @@ use Rattle.verdict_laws.proofs.Again.{renamed, named_as}
 
 -- ---- names of which none is there twice
 
--- each of these names is new, behind those
+-- each of these names is new, after those
 abbrev pub AreNew : List (List ℕ) → List (List ℕ) → Type 0
 AreNew before [] = Unit {0}
 AreNew before (n ∷ ns) = (is_among n before ≡ false) × AreNew (before ++ n ∷ []) ns

@@ -53,7 +53,7 @@ module _ {X Y : Type 0} (name : Y → List ℕ) (tag : X → Y) where
   abbrev pub here : List Y → Y → List Y
   here before y = if has_name name (name y) before then [] else y ∷ []
 
-  -- of these, behind those, the first of each name
+  -- of these, after those, the first of each name
   abbrev pub kept : List Y → List Y → List Y
   kept before ys = each_place_after here before ys
 
@@ -150,7 +150,7 @@ module _ {X Y : Type 0} (name : Y → List ℕ) (tag : X → Y) where
       by false true e = ap (λ g. map tag (cond g (x ∷ filter (gives c) (filter (unseen before) xs)) (filter (gives c) (filter (unseen before) xs)))) (sym e)
       by false false e = ap (λ g. map tag (cond g (x ∷ filter (gives c) (filter (unseen before) xs)) (filter (gives c) (filter (unseen before) xs)))) (sym e)
 
-  -- what classes give, one class behind the other
+  -- what classes give, one class after the other
   abbrev pub all_blocks : List (X → ℕ) → List X → List Y
   all_blocks [] xs = []
   all_blocks (c ∷ cs) xs = blocks c xs ++ all_blocks cs xs

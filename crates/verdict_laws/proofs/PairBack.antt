@@ -51,14 +51,14 @@ references_too a b equal h = subst (λ (s : Judged). (fault : SchemaFault) → P
 references_back : (a b : SchemaTree Place) → AreEqual a b → PassesNoReferenceBound b → PassesNoReferenceBound a
 references_back a b equal h = subst (λ (s : Judged). (fault : SchemaFault) → PassesReferenceBound s fault → ⊥) (sym (read_the_same a b equal)) h
 
--- behind fewer texts a number is left
+-- after fewer texts a number is left
 behind_fewer : (count first : ℕ) → 1 ≤ count → IsNumber (count + first) → IsNumber (1 + first)
 behind_fewer count first some left = λ passed. left (by passed)
   where
     by : PassesNumbers (1 + first) → PassesNumbers (count + first)
     by passed = omega (arith, some, passed)
 
--- ---- the way back
+-- ---- the written texts, read back
 
 module _ (terms : Terms) (schemas : List SourceText) (document : SourceText) (other : terms.first_text ≢ 0) (first : IsAccepted terms schemas document) (layout next : Layout) (plain : IsPlainLayout layout) (plain_next : IsPlainLayout next) (schema_written document_written : SourceText) (schema_is : IsLaidOutText layout (Out terms first.schema.judged.trees) schema_written) (document_is : IsLaidOutText next (OutDoc first.over.judged.tree) document_written) where
   abbrev number : ℕ

@@ -59,7 +59,7 @@ module _ {X : Type 0} where
 
   -- ---- where something stands
 
-  -- in the first of two lists, behind these, or in the second, behind all of the first
+  -- in the first of two lists, after these, or in the second, after all of the first
   abbrev pub StandsInEither : List X → List X → List X → X → Type 0
   StandsInEither xs ys before x = StandsAfter xs before x ⊎ ((front : List X) × ((before ≡ xs ++ front) × StandsAfter ys front x))
 
@@ -79,7 +79,7 @@ module _ {X : Type 0} where
       further e (inl (rest, k)) = inl (rest, λ i. e i ∷ k i)
       further e (inr (front, (k, at))) = inr (front, (λ i. sym e i ∷ k i, at))
 
-  -- what stands among those that pass a test passes, and stands in the list, behind the same that pass
+  -- what is among those that pass a test passes, and is in the list, after the same that pass
   pub stands_passing : (f : X → Bool) (xs before : List X) (x : X) → StandsAfter (filter f xs) before x → (front : List X) × (StandsAfter xs front x × ((filter f front ≡ before) × (f x ≡ true)))
   stands_passing f xs before x (after, is) =
       let p = found (λ (y : X). y) f xs before x after (map-id (filter f xs) ∙ is) in (

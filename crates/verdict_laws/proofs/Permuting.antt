@@ -187,7 +187,7 @@ has_sort (tree.ExtendUnion p t) h = of_extension (tree.ExtendUnion p t) _ refl r
 has_sort (tree.ExtendEnum p t) h = of_extension (tree.ExtendEnum p t) _ refl refl refl refl refl
 has_sort (tree.ExtendInputObject p t) h = of_extension (tree.ExtendInputObject p t) _ refl refl refl refl refl
 
--- ---- definitions that are the same, places aside
+-- ---- definitions that are the same, apart from places
 
 module _ (d e : DefinitionTree Place) (same : unplaced_definition d ≡ unplaced_definition e) where
   both : IsRearranged (d ∷ []) (e ∷ [])

@@ -30,7 +30,7 @@ use Rattle.verdict_definitions.specs.Out.{Layout, layout_text, as_lines}
 use Rattle.verdict_laws.specs.RoadBack.{IsPlainLayout, IsLaidOutText, IsSameTree, IsWrittenAlike}
 use Rattle.verdict_laws.proofs.LineFeeds.{document_line}
 
--- The text has this number and is read as the definitions, places aside; and it nests no deeper than they.
+-- The text has this number and is read as the definitions, apart from places; and it nests no deeper than they.
 pub record ReadsBack (number : ℕ) (text : SourceText) (ds : Tree) : Type 0 where
   pub tree : Tree
   pub read : ReadsText number text tree
@@ -71,7 +71,7 @@ reads_back number layout plain (d ∷ ds) formed writable text is = by is
     by (inl e) = subst (λ t. ReadsBack number t (d ∷ ds)) (sym e) bare
     by (inr e) = subst (λ t. ReadsBack number t (d ∷ ds)) (sym e) (lines layout plain bare)
 
--- what is equal, places aside, is written alike
+-- what is equal, apart from places, is written alike
 pub written_alike : (a b : Tree) → IsSameTree a b → IsWrittenAlike a b
 written_alike a b same layout = document_same layout 0 a ∙ ap (document_text layout 0) same ∙ sym (document_same layout 0 b)
 

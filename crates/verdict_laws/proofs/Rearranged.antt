@@ -195,7 +195,7 @@ texts_within nesting first (text ∷ texts) (t ∷ ts) read room deep =
       texts_within nesting (first + 1) texts ts read.1 (omega (arith, room)) (omega (arith, parts, deep)),
     )
 
--- where a number is left behind all texts, each has one
+-- where a number is left after all texts, each has one
 room_for_all : (terms : Terms) (texts : List SourceText) → LeaveNumber terms texts → TextsHaveNumbers terms texts
 room_for_all terms texts left = let k = no_less (document_number terms texts + 1) (2 ^ 64) left in omega (arith, k)
 

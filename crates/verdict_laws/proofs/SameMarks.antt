@@ -73,7 +73,7 @@ module _ {A : Type 0} (of : TypeParts Place → List (Placed Place A)) (key : Gi
       by true rest = own g.it h.0
       by false rest = rest
 
-  -- behind others they do not count
+  -- after others they do not count
   first_counts : (m : List ℕ) (gs hs : List Component) → Each (λ (g : Component). Own g.it) hs → mark (found m (gs ++ hs)) ≡ mark (found m gs)
   first_counts m [] hs h = all_own m hs h ∙ sym none
   first_counts m (g ∷ gs) hs h = by (bytes_eq m (key g)) (first_counts m gs hs h)

@@ -42,7 +42,7 @@ use Rattle.verdict_laws.proofs.ReadBack.{ReadsBack, reads_back, written_alike, t
 abbrev pub joined : (a b c : SchemaTree Place) → AreEqual a b → AreEqual b c → AreEqual a c
 joined a b c one two = record { same = one.same ∙ two.same; marks = λ at. one.marks at ∙ two.marks at }
 
--- equal schemas are equal at hand too
+-- where schemas are equal, their schemas for documents are too
 hands_equal : (terms : Terms) (trees other_trees : List Tree) → AreEqual (schema_of terms trees) (schema_of terms other_trees) → AreEqual (schema_at_hand terms trees) (schema_at_hand terms other_trees)
 hands_equal terms trees other_trees equal =
     equal_after (schema_of terms trees) (schema_of terms other_trees)

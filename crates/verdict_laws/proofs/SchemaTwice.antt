@@ -503,7 +503,7 @@ module _ (built_in : Definitions) (first : ℕ) (texts : Definitions) (rules : F
       named_first None = refl
       named_first (Some g) = refl
 
-      -- equal by what stands in the lists
+      -- equal by what is in the lists
       roots_equal : (f : ℕ) (xs : Definitions) (applied : (if schema_is_defined xs then flat_map extends_schema (numbered f xs) else []) ≡ flat_map extends_schema (numbered f xs)) (most : (op : OperationType) → length (roots_in op xs) ≤ 1)
           → option_map unplaced_text (schema_base xs).description ≡ option_map unplaced_text base.description
           → (schema_base xs).parts.directives ++ flat_map dirs (schema_extensions_in xs) ≡ base.parts.directives ++ flat_map dirs (schema_extensions_in ds)

@@ -1,4 +1,4 @@
--- What schema texts have in common: each definition can be written, and none stands in the file of what is built in.
+-- What schema texts have in common: each definition can be written, and none is in the file of what is built in.
 use Rattle.std.proofs.Common.{◌≡◌, ◌≢◌, ℕ, ◌+◌, Bool, true, false, not, ◌&&◌, List, [], ◌∷◌, ◌++◌, Option, None, Some, option_to_list, refl, sym, ap, ◌∙◌, suc, arith, true≢false}
 use Rattle.std.specs.List.{list_all, AllByRecursion}
 use Rattle.std.proofs.lemmas.Option.{same_Some}
@@ -50,7 +50,7 @@ fine_all first (text ∷ texts) (tree ∷ trees) some read =
       own = all_append (all_in_definition is_own) tree (all_definitions trees) here.own rest.own;
     }
 
--- ---- none stands in the file of what is built in
+-- ---- none is in the file of what is built in
 
 not_true : (b : Bool) → not b ≡ true → b ≡ false
 not_true true h = absurd (true≢false (sym h))

@@ -1,4 +1,4 @@
--- Typing reads nothing of places: of documents that are the same, places aside, it keeps the same, and as many rules are broken.
+-- Typing reads nothing of places: of documents that are the same, apart from places, it keeps the same, and as many rules are broken.
 use Rattle.std.proofs.Common.{◌≡◌, ℕ, Bool, true, false, not, ◌&&◌, List, [], ◌∷◌, ◌++◌, map, Option, None, Some, refl, sym, ap, subst, ◌∙◌, if◌then◌else◌, is_some, Contains, suc}
 use Rattle.std.specs.Prelude.{fold, nat_lt, length}
 use Rattle.std.specs.List.{filter}
@@ -289,7 +289,7 @@ module _ {P : Type 0} (m : Meanings) where
       definitions_same (nat_lt 1 (length (filter is_operation ds))) ds nothing
       ∙ ap (λ n. fold (and_definition m (nat_lt 1 n)) nothing (map unplaced_definition ds)) (count_same ds)
 
-  -- what is kept of a document is the same, places aside
+  -- what is kept of a document is the same, apart from places
   pub kept_document_same : (ds : List (DefinitionTree P)) → unplaced_document (kept_document m ds) ≡ kept_document m (map unplaced_definition ds)
   kept_document_same ds =
       ap (λ (t : Typed P). unplaced_document t.document) (sym (typed-is m ds))

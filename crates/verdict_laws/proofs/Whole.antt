@@ -1,4 +1,4 @@
--- Where no component is repeated, the schema's type is written as it stood in the list.
+-- Where no component is repeated, the schema's type is written unchanged, as it is in the list.
 use Rattle.std.proofs.Common.{◌≡◌, ℕ, ◌+◌, ◌≤◌, ◌==◌, Bool, true, false, cond, List, [], ◌∷◌, ◌++◌, map, flat_map, length, Option, Some, None, refl, ap, ◌∙◌, if◌then◌else◌, arith, option_to_list}
 use Rattle.std.specs.List.{filter}
 use Rattle.std.specs.Str.{bytes_eq}

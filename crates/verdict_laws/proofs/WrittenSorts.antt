@@ -67,7 +67,7 @@ chosen_name ds q =
 
 -- ---- of lists that are rearranged
 
--- those of a name, with marks, behind the same definitions
+-- those of a name, with marks, after the same definitions
 module _ {A B : Type 0} (here : DefinitionTree Place → Option A) (mark : A → Bool) (blind : A → B) (name : A → List ℕ) (n : List ℕ) where
   abbrev all_here : Definitions → List A
   all_here ds = flat_map (λ d. option_to_list (here d)) ds

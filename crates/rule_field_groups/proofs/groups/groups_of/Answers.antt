@@ -40,7 +40,7 @@ loop-fields-preserved c =
       once = group_once c.args.pass s at.yielded fields at.groups.items c.push.new.self.items group is here.once inv.once;
     }
 
--- all keys were gone through
+-- all keys were scanned
 all_yielded : (c : goal.After-drop-fields-iterator-2) → map (λ (v : Vec Member Global). v.items) c.loop-fields.yielded ≡ lists_of c.in_ok-keyed.keyed
 all_yielded c =
     let keyed = c.in_ok-keyed.keyed in

@@ -32,7 +32,7 @@ found text starts place i is within short point =
       start = λ read e. subst (IsLineStart text place) (sym (e ∙ get_or_default starts (i - 1) read 0 (omega (arith, above, short)) ∙ ap (λ l. get_or l (i - 1) 0) is ∙ f.start)) (last_start-is text place);
     }
 
--- the position of the place that is taken in the stead of one behind the end
+-- the position of the place that is taken instead of one past the end
 at_place : (text : List ℕ) (offset place line start column : ℕ) → place ≡ min offset (length text)
     → line ≡ 1 + how_many (ends_line text) 0 place → IsLineStart text place start → column ≡ how_many (ends_character text) start place
     → IsPosition text offset (record { line = line; column = column + 1 })
