@@ -29,7 +29,7 @@ import signal
 import subprocess
 import sys
 import tempfile
-from typing import NamedTuple, Optional
+from typing import Dict, NamedTuple, Optional
 
 import growth_texts
 from sources import TOP
@@ -55,9 +55,7 @@ class Known(NamedTuple):
 
 
 # The families that are known to be worse than wanted.
-KNOWN = {
-    "told_args": Known(factor=2.43),
-}
+KNOWN: Dict[str, Known] = {}
 
 
 class Run(NamedTuple):

@@ -579,7 +579,7 @@ FAMILIES = [
     family(apply, 2_000),
     family(args, 500),
     family(locations, 2_500),
-    family(told_args, 400, told=True),
+    family(told_args, 2_000, told=True),
     family(told_keys, 400, told=True),
     family(told_ops, 2_000, told=True),
     family(told_names, 4_000, told=True, bound=4.3),
