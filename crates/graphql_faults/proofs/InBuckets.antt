@@ -1,5 +1,5 @@
 -- The buckets of lists to which more is added, and how an equal one is looked for in a bucket.
-use Rattle.std.proofs.Common.{◌≡◌, ◌≢◌, ◌∙◌, ◌<◌, ◌≤◌, ℕ, ◌+◌, ◌-◌, suc, List, [], ◌∷◌, ◌++◌, length, get_or, set, take, slice_get, Option, None, Some, Bool, false, IsTrue, ◌↔◌, map, refl, sym, ap, subst, inl, inr, Contains, arith, get_or-set_same, get_or-set_other, length-append}
+use Rattle.std.proofs.Common.{◌≡◌, ◌≢◌, ◌∙◌, ◌<◌, ◌≤◌, ℕ, ◌+◌, ◌-◌, suc, List, [], ◌∷◌, ◌++◌, length, get_or, set, take, slice_get, Option, None, Some, Bool, false, IsTrue, ◌↔◌, map, sym, ap, subst, inl, inr, Contains, arith, get_or-set_same, get_or-set_other, length-append}
 use Rattle.std.specs.Option.{option_map}
 use Rattle.std.proofs.lemmas.Bool.{cases_lt, cases_eq}
 use Rattle.std.proofs.lemmas.List.{get_or_default, take_all, take_more, map-append, length_push, length-set, length-map, get_or_append_left}

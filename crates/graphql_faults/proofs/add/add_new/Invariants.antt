@@ -1,4 +1,4 @@
-use Rattle.std.proofs.Common.{◌≡◌, ◌≤◌, ◌++◌, length, map, Contains}
+use Rattle.std.proofs.Common.{◌≡◌, ◌++◌, length, map, Contains}
 use Rattle.std.specs.Vec.Iter.{into_iter_items, into_iter_len}
 use Rattle.graphql_faults.specs.Added.{AddsNew}
 use Rattle.graphql_faults.specs.InBuckets.{AreRight}

@@ -1,4 +1,4 @@
-use Rattle.std.proofs.Common.{◌<◌, subst, arith}
+use Rattle.std.proofs.Common.{subst, arith}
 use Rattle.graphql_faults.proofs.InBuckets.{IsNotFrom, begun, stepped, in_none}
 use Rattle.graphql_faults.proofs.buckets.Buckets.find.Goals as goal
 

@@ -1,4 +1,4 @@
-use Rattle.std.proofs.Common.{map, take, length, ◌≡◌, ◌<◌, sym, ◌∙◌, subst, arith}
+use Rattle.std.proofs.Common.{map, take, length, ◌<◌, arith}
 use Rattle.graphql_faults.proofs.InBuckets.{right_of_next, right_of_all}
 use Rattle.graphql_faults.proofs.buckets.Buckets.of.Goals as goal
 
