@@ -27,7 +27,7 @@ import signal
 import subprocess
 import sys
 import tempfile
-from typing import NamedTuple, Optional
+from typing import Dict, NamedTuple, Optional
 
 import counting
 import growth_texts
@@ -54,9 +54,7 @@ class Known(NamedTuple):
 
 
 # The families that are known to be worse than wanted.
-KNOWN = {
-    "told_args": Known(factor=2.43),
-}
+KNOWN: Dict[str, Known] = {}
 
 
 class Measured(NamedTuple):

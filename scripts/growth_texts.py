@@ -360,6 +360,15 @@ def told_variables(size):
     return "type Query{a(a:ID):ID}", head + filled(size - len(head) - 1, "a(a:$a)") + "}"
 
 
+def told_in_turn(size):
+    """Operations reach uses of a variable that none of them defines, in one order and in the reverse one by turns."""
+    count, names = size // 80, NAMES
+    uses = "".join(f"fragment {names[i]}1 on Query{{a(a:$a)}}" for i in range(count))
+    spreads = [f"...{names[i]}1 " for i in range(count)]
+    head = uses + "fragment F on Query{" + "".join(spreads) + "}fragment G on Query{" + "".join(reversed(spreads)) + "}"
+    return "type Query{a(a:ID):ID}", head + filled(size - len(head), lambda i: f"query {names[i]}{{...{'FG'[i % 2]}}}")
+
+
 def shared_variables(size):
     """Operations share uses of a variable that each of them defines."""
     head = filled(size // 2, lambda i: f"query {NAMES[i]}($a:ID){{...F}}") + "fragment F on Query{"
@@ -570,7 +579,7 @@ FAMILIES = [
     family(apply, 2_000),
     family(args, 500),
     family(locations, 2_500),
-    family(told_args, 400, told=True),
+    family(told_args, 2_000, told=True),
     family(told_keys, 400, told=True),
     family(told_ops, 2_000, told=True),
     family(told_names, 4_000, told=True, bound=4.3),
@@ -593,5 +602,6 @@ FAMILIES = [
     family(own_arguments, 8_000, SCHEMA),
     family(told_roots, 3_000, told=True),
     family(told_variables, 800, told=True, bound=4.3),
+    family(told_in_turn, 1_600, told=True, bound=4.3),
     family(told_labels, 2_500, told=True),
 ]

@@ -13,7 +13,7 @@ use Rattle.graphql_faults.specs.Added.{BeginsAs, AddsNew, TellsAll}
 
 module _ {A : Type 0} where
   -- ---- one more at the end
-  push_cases : (xs : List A) (x : A) (i : ℕ) (y : A) → slice_get (xs ++ x ∷ []) i ≡ Some y → (slice_get xs i ≡ Some y) ⊎ ((i ≡ length xs) × (y ≡ x))
+  pub push_cases : (xs : List A) (x : A) (i : ℕ) (y : A) → slice_get (xs ++ x ∷ []) i ≡ Some y → (slice_get xs i ≡ Some y) ⊎ ((i ≡ length xs) × (y ≡ x))
   push_cases xs x i y h =
       let within : i < length (xs ++ x ∷ []) = slice_get_within (xs ++ x ∷ []) i y h in
       let is : get_or (xs ++ x ∷ []) i y ≡ y = get_or_from_slice_get (xs ++ x ∷ []) i y y h in

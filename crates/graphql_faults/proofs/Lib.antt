@@ -9,5 +9,6 @@ pub mod BreachEquality
 pub mod Traces
 pub mod DataEquality
 pub mod Adding
+pub mod InBuckets
 pub mod Kept
 pub mod SameDetails

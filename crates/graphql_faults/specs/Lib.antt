@@ -12,6 +12,8 @@ pub use Rattle.graphql_read.specs.in_grammar as in_grammar
 pub use Rattle.graphql_read.specs.in_read_operations as in_read_operations
 pub use Rattle.graphql_read.specs.in_tokens as in_tokens
 pub mod Added
+pub mod InBuckets
+pub mod PlaceBucket
 pub mod Once
 pub mod PlacedBreach
 pub mod ToldOfDocument

@@ -1,8 +1,10 @@
 //! Adding faults to a list, each once.
-ghost use Rattle.std.specs.Prelude.{◌≡◌, ◌<◌, ◌≤◌, ◌∷◌, [], ℕ, ◌≢◌, map, slice_get, vec_len, Some, Contains, IfNone, IfOk, IfSome, OnOk};
+ghost use Rattle.std.specs.Prelude.{◌≡◌, ◌<◌, ◌∷◌, [], map, slice_get, vec_len, Some, Contains, IfNone, IfOk, IfSome, OnOk};
 ghost use Rattle.rule_definitions.specs.Room.{most_told};
 ghost use Rattle.graphql_faults.specs.Added.{AddsNew, TellsAll};
+ghost use Rattle.graphql_faults.specs.InBuckets.{AreRight};
 
+use crate::buckets::Buckets;
 use crate::told::Told;
 use fault_data::MOST_TOLD;
 use std::alloc::AllocError;
@@ -13,59 +15,54 @@ pub fn add_new<T: Told + Drop>(told: &mut Vec<T>, more: Vec<T>) -> Result<(), Al
     ensures added { AddsNew (map T.plain told.old.items) (map T.plain more.items) (map T.plain told.new.items) }
     ensures all { OnOk result (TellsAll (map T.plain more.items) (map T.plain told.new.items)) }
 {
-    // Where the search begins: faults that come again mostly come in the same order.
+    if more.is_empty() {
+        return Ok(());
+    }
+    let mut buckets = Buckets::of(told)?;
+    // Where the next is looked for first: faults that come again mostly come in the same order.
     let mut next = 0;
     for one in more {
         if told.len() >= MOST_TOLD {
             return Ok(());
         }
-        next = add_one(told, one, next)?;
+        next = add_one(told, &mut buckets, one, next)?;
     }
     Ok(())
 }
 
-/// Adds it at the end, if it is not there. Returns the index where the search for the next begins: after the equal one,
-/// if there was one.
-fn add_one<T: Told + Drop>(told: &mut Vec<T>, one: T, from: usize) -> Result<usize, AllocError>
-    requires begin { from ≤ vec_len told.old }
+/// Adds it at the end, if it is not there. Returns the index where the next is looked for first: after the equal one, if there
+/// was one.
+fn add_one<T: Told + Drop>(
+    told: &mut Vec<T>,
+    buckets: &mut Buckets,
+    one: T,
+    next: usize,
+) -> Result<usize, AllocError>
     requires room { vec_len told.old < most_told }
+    requires right { AreRight (map (λ one. T.bucket_of (T.plain one)) told.old.items) buckets.old }
     ensures added { AddsNew (map T.plain told.old.items) (T.plain one ∷ []) (map T.plain told.new.items) }
     ensures there { OnOk result (Contains (map T.plain told.new.items) (T.plain one)) }
-    ensures next { IfOk result (λ next. next ≤ vec_len told.new) }
+    ensures right { OnOk result (AreRight (map (λ one. T.bucket_of (T.plain one)) told.new.items) buckets.new) }
 {
-    match find(told, &one, from) {
+    match find(told, buckets, &one, next) {
         Some(index) => Ok(index + 1),
         None => {
+            buckets.push(one.bucket())?;
             told.push(one)?;
-            Ok(from)
+            Ok(next)
         }
     }
 }
 
-/// The index of an equal one, searched from `from` on and then from the front.
-fn find<T: Told>(told: &Vec<T>, one: &T, from: usize) -> Option<usize>
-    requires { from ≤ vec_len told.now }
+/// The index of an equal one, that at `next` if it is equal.
+fn find<T: Told>(told: &Vec<T>, buckets: &Buckets, one: &T, next: usize) -> Option<usize>
+    requires { AreRight (map (λ one. T.bucket_of (T.plain one)) told.now.items) buckets.now }
     ensures found { IfSome result (λ index. slice_get (map T.plain told.now.items) index ≡ Some (T.plain one.now)) }
     ensures within { IfSome result (λ index. index < vec_len told.now) }
     ensures not_found { IfNone result (Contains (map T.plain told.now.items) (T.plain one.now) → ⊥) }
 {
-    match find_between(told, one, from, told.len()) {
-        Some(index) => Some(index),
-        None => find_between(told, one, 0, from),
+    if next < told.len() && told[next].is_same(one) {
+        return Some(next);
     }
-}
-
-/// The index of an equal one, among those from `from` to before `to`.
-fn find_between<T: Told>(told: &Vec<T>, one: &T, from: usize, to: usize) -> Option<usize>
-    requires { to ≤ vec_len told.now }
-    ensures found { IfSome result (λ index. slice_get (map T.plain told.now.items) index ≡ Some (T.plain one.now)) }
-    ensures within { IfSome result (λ index. index < to) }
-    ensures not_found { IfNone result ((k : ℕ) → from ≤ k → k < to → slice_get (map T.plain told.now.items) k ≢ Some (T.plain one.now)) }
-{
-    for index in from..to {
-        if told[index].is_same(one) {
-            return Some(index);
-        }
-    }
-    None
+    buckets.find(told, one)
 }

@@ -7,11 +7,12 @@
 //! In a list that a call tells no two faults are equal: what is added is new (`specs/Added.antt`, `specs/Once.antt`).
 //!
 //! What breaks rules is in `fault_data`. Begin with `details.rt` and `diagnostic_list.rt`; of lists without equal faults with
-//! `add.rt` and `told.rt`.
+//! `add.rt`, `buckets.rt` and `told.rt`.
 #![tactic(auto)]
 
 mod add;
 mod breach;
+mod buckets;
 mod comma_separated;
 mod data;
 mod details;

@@ -1,6 +1,7 @@
 //! When two details of a document are the same.
 
 use crate::breach::is_same_breach;
+use crate::buckets::place_bucket;
 use crate::data::is_same_data;
 use crate::details::Details;
 use crate::told::Told;
@@ -11,12 +12,15 @@ use graphql_names::SourceSpan;
 impl Told for (Option<SourceSpan>, Details) {
     ghost use Rattle.std.specs.Prelude.{List, Option};
     ghost use Rattle.graphql_names.specs.Placed.{Place};
+    ghost use Rattle.graphql_faults.specs.PlaceBucket.{place_bucket};
     ghost use Rattle.graphql_faults.specs.DetailsTree.{DetailsTree};
     ghost use Rattle.graphql_faults.specs.ToldOfDocument.{told_at};
 
     ghost Plain = { Place × Option (DetailsTree Place (List Place)) };
 
     ghost plain = { told_at };
+
+    ghost bucket_of = { λ told. place_bucket told.0 };
 
     fn is_same(&self, other: &(Option<SourceSpan>, Details)) -> bool {
         // places first: these mostly differ
@@ -35,5 +39,9 @@ impl Told for (Option<SourceSpan>, Details) {
             ) => true,
             _ => false,
         }
+    }
+
+    fn bucket(&self) -> usize {
+        place_bucket(self.0)
     }
 }

@@ -25,7 +25,7 @@ loop-one-preserved g c =
     let steps : into_iter_items at.one-iterator ≡ c.in-Some.one ∷ into_iter_items c.next.new.self = c.in-Some.ensures.steps.0 in (
       adds_more f (map f c.args.told.now.items) (map f at.told.items) (map f c.add_one.new.told.items) at.yielded c.in-Some.one at.invariant.0 c.add_one.ensures.added,
       tells_more f (map f at.told.items) (map f c.add_one.new.told.items) at.yielded c.in-Some.one c.add_one.ensures.added.begins at.invariant.1 c.in_ok-next.ensures.there,
-      c.in_ok-next.ensures.next,
+      c.in_ok-next.ensures.right,
       at.invariant.3 ∙ ap (λ r. at.yielded ++ r) steps ∙ sym (append_assoc at.yielded (c.in-Some.one ∷ []) (into_iter_items c.next.new.self)),
       let was = at.invariant.4 in
           let gone = c.in-Some.ensures.steps.1 in
