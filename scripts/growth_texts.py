@@ -587,7 +587,7 @@ FAMILIES = [
     family(hash_lists, 3_500),
     family(hash_schema, 6_000, SCHEMA),
     family(schema_uses, 6_000, SCHEMA),
-    family(missing_fields, 4_000, SCHEMA, told=True),
+    family(missing_fields, 8_000, SCHEMA, told=True),
     family(schema_covariant, 20_000, SCHEMA),
     family(schema_transitive, 4_000, SCHEMA, told=True),
     family(report_fragments, 1_000, program="report", told=True),
