@@ -165,7 +165,7 @@ module _ {A B : Type 0} (f : A → B) (bucket : B → ℕ) where
   begun xs y x b end r low is read =
       let first : get_or x.ends.items b 0 ≡ end = get_or_default x.ends.items b 0 end (subst (λ n. b < n) (sym r.sized) low) ∙ sym read in
       let e : IsEndOf (map (λ x. bucket (f x)) xs) b (length xs) end =
-          subst (λ n. IsEndOf (map (λ x. bucket (f x)) xs) b n end) (length-map xs (λ x. bucket (f x))) (subst (IsEndOf (map (λ x. bucket (f x)) xs) b (length (map (λ x. bucket (f x)) xs))) first (r.ends b low)) in
+      subst (λ n. IsEndOf (map (λ x. bucket (f x)) xs) b n end) (length-map xs (λ x. bucket (f x))) (subst (IsEndOf (map (λ x. bucket (f x)) xs) b (length (map (λ x. bucket (f x)) xs))) first (r.ends b low)) in
       at_first xs y end (subst (λ c. IsEndOf (map (λ x. bucket (f x)) xs) c (length xs) end) is e)
 
   -- one was looked at, and is not equal
