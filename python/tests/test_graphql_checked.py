@@ -332,11 +332,11 @@ class TestNames(unittest.TestCase):
 
 
 def as_json(fault: Fault) -> Dict[str, Any]:
-    """The fault as `graphql-report --format json` tells it."""
+    """The fault as `graphql-report --format json` tells it, which says too that it is no warning."""
     told: Dict[str, Any] = json.loads(json.dumps(vars(fault), default=vars))
     line, column = told.pop("end_line"), told.pop("end_column")
     told.pop("text")
-    return {**told, "end": None if line is None else {"line": line, "column": column}}
+    return {**told, "severity": "error", "end": None if line is None else {"line": line, "column": column}}
 
 
 if __name__ == "__main__":
