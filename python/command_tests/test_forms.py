@@ -10,7 +10,8 @@ import pytest
 from conftest import TOP, Repository
 
 
-LEFT_OUT = re.compile(r"[|<>]|--batch|--help|--version|--max-faults|--warn|--deny|--quiet|none\.graphql|(\S+twice\S+) .*\1")
+# `graphql-check` tells uses of what is deprecated without an option.
+LEFT_OUT = re.compile(r"[|<>]|--batch|--help|--version|--max-faults|--warn|--deny|--quiet|none\.graphql|deprecated\.graphql|(\S+twice\S+) .*\1")
 
 
 def runs() -> List[Tuple[str, List[str]]]:
