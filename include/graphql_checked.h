@@ -87,7 +87,7 @@ typedef struct {
     const char *path;  /* ends with a zero byte; null: "schema" or "document" */
 } graphql_checked_text;
 
-/* A report or a text, which belongs to the handle: it lasts until the next call on it. Behind the last byte is a zero byte. */
+/* A report or a text, which belongs to the handle: it lasts until the next call on it. A zero byte follows its last byte. */
 typedef struct {
     const char *bytes; /* never null */
     size_t length;     /* in bytes, without the zero byte; 0 where there is no answer */

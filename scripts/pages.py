@@ -14,7 +14,7 @@ sources have nothing else of that name, neither an item, a definition nor a file
 in a heading of docs/PROMISES.md, or in a column of a table whose head has the word crate or crates.
 
 --clauses prints the clauses that are too long, the longest first. --names prints the names of definitions, items, clauses and locals of
-crates that have a word which pages must not have, as `stands_in` and `StandsIn`: more than there are now are wrong.
+crates that have a word which pages must not have, as `stands_in` and `StandsIn`: --check refuses them too.
 """
 import io
 import os
@@ -29,9 +29,6 @@ from sources import TOP
 LINES = 150
 CHARACTERS = 160
 README_WORDS, ALL_WORDS = 900, 22000
-
-# How many names with a word that is refused may be left: with each that gets a better one it goes down.
-NAMES = 48
 
 # the line after which CONTRIBUTING.md has the words that pages and doc comments must not have.
 WORDS = "<!-- the words that scripts/pages.py refuses -->"
@@ -253,8 +250,7 @@ def main(words):
     if "--names" in words:
         print("\n".join(f"{where}: {name}" for where, name in names))
         return 0
-    if len(names) > NAMES:
-        wrong.append(f"{len(names)} names have a word that is refused, more than {NAMES}; scripts/pages.py --names prints them")
+    wrong += [f"{where}: the name {name} has a word that is refused" for where, name in names]
     clauses = long_clauses(library)
     if "--clauses" in words:
         print("\n".join(f"{length} characters: {where}" for length, where in clauses))

@@ -1,6 +1,6 @@
 """The forms are those of `graphql-report`, whose runs are in examples/report/runs.txt: line for line, but for the last, how much was
-found, which JSON has as records, and but for that of the schema. Left out are runs that cut what is printed, tell warnings, whose names
-are others there, or name a file twice or one that is not there."""
+found, which JSON has as records, and but for that of the schema. Left out are runs that cut what is printed, or name a file twice or one
+that is not there."""
 
 import re
 import shlex
@@ -10,8 +10,7 @@ import pytest
 from conftest import TOP, Repository
 
 
-# `graphql-check` tells uses of what is deprecated without an option.
-LEFT_OUT = re.compile(r"[|<>]|--batch|--help|--version|--max-faults|--warn|--deny|--quiet|none\.graphql|deprecated\.graphql|(\S+twice\S+) .*\1")
+LEFT_OUT = re.compile(r"[|<>]|--batch|--help|--version|--max-faults|--quiet|none\.graphql|(\S+twice\S+) .*\1")
 
 
 def runs() -> List[Tuple[str, List[str]]]:
@@ -29,6 +28,8 @@ def runs() -> List[Tuple[str, List[str]]]:
 @pytest.mark.parametrize("command,wanted", runs())
 def test_the_runs_of_graphql_report(command: str, wanted: List[str]) -> None:
     words = shlex.split(command)[1:]
+    # what `graphql-check` does without an option
+    words = [it for it in words if it != "--warn"] if "--warn" in words else ["--no-warnings", *words]
     options = [it for index, it in enumerate(words) if it.startswith("--") or words[index - 1].startswith("--")]
     documents = [it for it in words if it not in options]
     told = []
@@ -38,4 +39,4 @@ def test_the_runs_of_graphql_report(command: str, wanted: List[str]) -> None:
 
 
 def test_the_runs_are_there() -> None:
-    assert len(runs()) >= 14
+    assert len(runs()) >= 19

@@ -4,7 +4,7 @@ use Rattle.schema_built_in.specs.Table.{built_in_definitions}
 use Rattle.rule_definitions.specs.Judged.{judged}
 use Rattle.rule_definitions.specs.Rules.{SchemaRules}
 use Rattle.verdict_definitions.specs.Texts.{SourceText, Tree, Terms}
-use Rattle.verdict_definitions.specs.Meaning.{all_definitions, schema_of, schema_at_hand, meanings_over}
+use Rattle.verdict_definitions.specs.Meaning.{all_definitions, schema_of, document_schema, meanings_over}
 use Rattle.verdict_definitions.specs.Judge.{AreSchemasAccepted, IsDocumentAccepted}
 use Rattle.rule_selections.proofs.in_typing.WholeDocuments.{document-whole}
 use Rattle.book_validity.specs.Yes.{meaning_over, schema_for_documents, AreValidSchemas, IsValidOver, TypedIsKeptWhole}
@@ -49,26 +49,26 @@ schemas_by_the_book terms schemas = (valid_schemas terms schemas, accepted_schem
 -- ---- a document over the schema of such texts
 
 module _ (terms : Terms) (trees : List Tree) (rules : SchemaRules (judged (schema_of terms trees))) (nesting number : ℕ) (document : SourceText) where
-  abbrev valid_over : IsDocumentAccepted (schema_at_hand terms trees) nesting number document → IsValidOver (schema_at_hand terms trees) nesting number document
+  abbrev valid_over : IsDocumentAccepted (document_schema terms trees) nesting number document → IsValidOver (document_schema terms trees) nesting number document
   valid_over a =
       let j = a.judged in
       record {
         tree = j.tree;
         read = j.read;
         within = a.within;
-        typed = (typed_by_the_book (meanings_over (schema_at_hand terms trees)) j.tree).1 j.typed;
-        valid = (rules_hold (judged (schema_at_hand terms trees)) (meaning_over (schema_at_hand terms trees) j.tree) (meaning_by_name (meanings_over (schema_at_hand terms trees)) j.tree)).1 j.holds.0;
+        typed = (typed_by_the_book (meanings_over (document_schema terms trees)) j.tree).1 j.typed;
+        valid = (rules_hold (judged (document_schema terms trees)) (meaning_over (document_schema terms trees) j.tree) (meaning_by_name (meanings_over (document_schema terms trees)) j.tree)).1 j.holds.0;
         merges = (accepted terms.first_extension (all_definitions trees) j.tree rules).0 j.holds.1;
       }
 
-  abbrev accepted_over : IsValidOver (schema_at_hand terms trees) nesting number document → IsDocumentAccepted (schema_at_hand terms trees) nesting number document
+  abbrev accepted_over : IsValidOver (document_schema terms trees) nesting number document → IsDocumentAccepted (document_schema terms trees) nesting number document
   accepted_over o = record {
     judged = record {
       tree = o.tree;
       read = o.read;
-      typed = (typed_by_the_book (meanings_over (schema_at_hand terms trees)) o.tree).0 o.typed;
+      typed = (typed_by_the_book (meanings_over (document_schema terms trees)) o.tree).0 o.typed;
       holds = (
-        (rules_hold (judged (schema_at_hand terms trees)) (meaning_over (schema_at_hand terms trees) o.tree) (meaning_by_name (meanings_over (schema_at_hand terms trees)) o.tree)).0 o.valid,
+        (rules_hold (judged (document_schema terms trees)) (meaning_over (document_schema terms trees) o.tree) (meaning_by_name (meanings_over (document_schema terms trees)) o.tree)).0 o.valid,
         (accepted terms.first_extension (all_definitions trees) o.tree rules).1 o.merges,
       );
     };
@@ -76,13 +76,13 @@ module _ (terms : Terms) (trees : List Tree) (rules : SchemaRules (judged (schem
   }
 
   -- the schema that documents are checked against is the filtered one
-  the_filtered : schema_at_hand terms trees ≡ schema_for_documents terms trees
+  the_filtered : document_schema terms trees ≡ schema_for_documents terms trees
   the_filtered = filtered terms.first_extension (all_definitions trees)
 
-  pub over_filtered : IsDocumentAccepted (schema_at_hand terms trees) nesting number document → IsValidOver (schema_for_documents terms trees) nesting number document
+  pub over_filtered : IsDocumentAccepted (document_schema terms trees) nesting number document → IsValidOver (schema_for_documents terms trees) nesting number document
   over_filtered a = subst (λ s. IsValidOver s nesting number document) the_filtered (valid_over a)
 
-  pub accepted_filtered : IsValidOver (schema_for_documents terms trees) nesting number document → IsDocumentAccepted (schema_at_hand terms trees) nesting number document
+  pub accepted_filtered : IsValidOver (schema_for_documents terms trees) nesting number document → IsDocumentAccepted (document_schema terms trees) nesting number document
   accepted_filtered o = accepted_over (subst (λ s. IsValidOver s nesting number document) (sym the_filtered) o)
 
 pub documents_by_the_book : DocumentsAcceptedByTheBook

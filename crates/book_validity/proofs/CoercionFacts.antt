@@ -9,7 +9,7 @@ use Rattle.rule_cycle_search.proofs.Lists.{Contains-cons, Contains-first, only, 
 use Rattle.rule_definitions.specs.Judged.{Judged}
 use Rattle.rule_definitions.specs.Names.{named_in, defined_name}
 use Rattle.rule_definitions.specs.Accepts.{IsDefined, AreItemsDefined, AreEntriesDefined, Takes, TakesItems, TakesEntries, Accepts}
-use Rattle.rule_document_definitions.specs.UsedVariables.{StandsInValue, StandsInItems, StandsInEntries}
+use Rattle.rule_document_definitions.specs.UsedVariables.{IsInValue, IsInItems, IsInEntries}
 use Rattle.book_validity.specs.Words.{OperationVariables, IsThere, named}
 use Rattle.book_validity.specs.Coercion.{IsCoercible, custom_scalar, list_of_custom_scalar, int, float, integer_as_float, string, boolean, string_as_id, integer_as_id, enum_value, input_object, list, null, variable, AreCoercible, no_more_items, and_item, AreEntriesCoercible, no_more_entries, and_entry, IsOfCorrectType}
 
@@ -99,25 +99,25 @@ module _ (s : Judged) (variables : OperationVariables) where
 
 module _ (variables : OperationVariables) (n : List ℕ) where
   mutual
-    defined_there : (v : ValueTree U) → IsDefined variables v → StandsInValue n v → IsThere (named defined_name variables n)
+    defined_there : (v : ValueTree U) → IsDefined variables v → IsInValue n v → IsThere (named defined_name variables n)
     defined_there (VariableTree x) h e = subst (λ m. IsThere (named defined_name variables m)) e h
     defined_there (ListTree items) h e = defined_in_items items h e
     defined_there (ObjectTree es) h e = defined_in_entries es h e
     defined_there v h e = absurd e
 
-    defined_in_items : (items : ItemTrees U) → AreItemsDefined variables items → StandsInItems n items → IsThere (named defined_name variables n)
+    defined_in_items : (items : ItemTrees U) → AreItemsDefined variables items → IsInItems n items → IsThere (named defined_name variables n)
     defined_in_items no_items h e = absurd e
     defined_in_items (item_then p v items) h (inl e) = defined_there v h.0 e
     defined_in_items (item_then p v items) h (inr e) = defined_in_items items h.1 e
 
-    defined_in_entries : (es : EntryTrees U) → AreEntriesDefined variables es → StandsInEntries n es → IsThere (named defined_name variables n)
+    defined_in_entries : (es : EntryTrees U) → AreEntriesDefined variables es → IsInEntries n es → IsThere (named defined_name variables n)
     defined_in_entries no_entries h e = absurd e
     defined_in_entries (entry_then k p v es) h (inl e) = defined_there v h.0 e
     defined_in_entries (entry_then k p v es) h (inr e) = defined_in_entries es h.1 e
 
 module _ (variables : OperationVariables) where
   mutual
-    all_defined : (v : ValueTree U) → ((n : List ℕ) → StandsInValue n v → IsThere (named defined_name variables n)) → IsDefined variables v
+    all_defined : (v : ValueTree U) → ((n : List ℕ) → IsInValue n v → IsThere (named defined_name variables n)) → IsDefined variables v
     all_defined (VariableTree x) h = h x.it refl
     all_defined (ListTree items) h = all_items_defined items h
     all_defined (ObjectTree es) h = all_entries_defined es h
@@ -128,11 +128,11 @@ module _ (variables : OperationVariables) where
     all_defined (IntTree x) h = tt
     all_defined (BooleanTree x) h = tt
 
-    all_items_defined : (items : ItemTrees U) → ((n : List ℕ) → StandsInItems n items → IsThere (named defined_name variables n)) → AreItemsDefined variables items
+    all_items_defined : (items : ItemTrees U) → ((n : List ℕ) → IsInItems n items → IsThere (named defined_name variables n)) → AreItemsDefined variables items
     all_items_defined no_items h = tt
     all_items_defined (item_then p v items) h = (all_defined v (λ n e. h n (inl e)), all_items_defined items (λ n e. h n (inr e)))
 
-    all_entries_defined : (es : EntryTrees U) → ((n : List ℕ) → StandsInEntries n es → IsThere (named defined_name variables n)) → AreEntriesDefined variables es
+    all_entries_defined : (es : EntryTrees U) → ((n : List ℕ) → IsInEntries n es → IsThere (named defined_name variables n)) → AreEntriesDefined variables es
     all_entries_defined no_entries h = tt
     all_entries_defined (entry_then k p v es) h = (all_defined v (λ n e. h n (inl e)), all_entries_defined es (λ n e. h n (inr e)))
 

@@ -7,7 +7,7 @@ use Rattle.rule_definitions.specs.Words.{Present}
 use Rattle.verdict_definitions.specs.in_typing.MeantTree.{Definition}
 use Rattle.verdict_definitions.specs.in_typing.Meanings.{Meanings, inner_type}
 use Rattle.verdict_definitions.specs.in_typing.KeptSelections.{may_select}
-use Rattle.verdict_definitions.specs.in_typing.TypingFaults.{TypingFault, SelectionBreaks, undefined_field, subselection_on_scalar_type, subselection_on_enum_type, undefined_type_in_inline_fragment_type_condition, StandsIn, first, later, in_field, in_fragment, in_condition}
+use Rattle.verdict_definitions.specs.in_typing.TypingFaults.{TypingFault, SelectionBreaks, undefined_field, subselection_on_scalar_type, subselection_on_enum_type, undefined_type_in_inline_fragment_type_condition, IsInSelections, first, later, in_field, in_fragment, in_condition}
 use Rattle.book_validity.specs.Typing.{IsTyped, AreTyped}
 use Rattle.book_validity.specs.Laws.{SetsTypedByTheBook}
 
@@ -49,7 +49,7 @@ module _ {P : Type 0} (m : Meanings) where
   one t (InlineTree p (Some c) ds ts) fault h (undefined_type_in_inline_fragment_type_condition b) = true≢false (sym h.0 ∙ b.0)
 
   -- what is in a typed set is typed
-  inside : (u : List ℕ) (s : SelectionTree P) (t : List ℕ) (ts : SelectionTrees P) → AreTyped m t ts → StandsIn m u s t ts → IsTyped m u s
+  inside : (u : List ℕ) (s : SelectionTree P) (t : List ℕ) (ts : SelectionTrees P) → AreTyped m t ts → IsInSelections m u s t ts → IsTyped m u s
   inside u s t ts h (first ss) = h.0
   inside u s t ts h (later t' x ss st) = inside u s t' ss h.1 st
   inside u s t ts h (in_field t' p hd us ss d e may st) =
@@ -59,7 +59,7 @@ module _ {P : Type 0} (m : Meanings) where
   inside u s t ts h (in_condition t' p c ds us ss e st) = inside u s c.it us h.0.1 st
 
   abbrev Silent : List ℕ → SelectionTrees P → Type 0
-  Silent t ts = (u : List ℕ) (s : SelectionTree P) (fault : TypingFault P) → StandsIn m u s t ts → SelectionBreaks m u s fault → ⊥
+  Silent t ts = (u : List ℕ) (s : SelectionTree P) (fault : TypingFault P) → IsInSelections m u s t ts → SelectionBreaks m u s fault → ⊥
 
   typed : (t : List ℕ) (ts : SelectionTrees P) → Silent t ts → AreTyped m t ts
   typed t no_selections q = tt

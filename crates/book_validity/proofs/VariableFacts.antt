@@ -16,7 +16,7 @@ use Rattle.rule_definitions.specs.Values.{ValueBreaks}
 use Rattle.rule_definitions.proofs.Accepting.{accepts_where_quiet}
 use Rattle.rule_definitions.proofs.Lists.{index_found, index_given}
 use Rattle.rule_document_definitions.specs.Selected.{Standing, as_field, selection_directives}
-use Rattle.rule_document_definitions.specs.UsedVariables.{StandsInValue, StandsInItems, StandsInEntries, StandsInArguments, StandsInDirectives, StandsInSelection, IsUsedIn, wanted_by}
+use Rattle.rule_document_definitions.specs.UsedVariables.{IsInValue, IsInItems, IsInEntries, IsInArguments, IsInDirectives, IsInSelection, IsUsedIn, wanted_by}
 use Rattle.rule_document_definitions.specs.Variables.{VariablesBreak}
 use Rattle.rule_document_definitions.specs.Verdict.{no_places}
 use Rattle.book_validity.specs.Words.{Document, Each, Operation}
@@ -36,33 +36,33 @@ U = Unit {0}
 
 module _ (n : List ℕ) where
   mutual
-    value_or_not : (v : ValueTree U) → Decided (StandsInValue n v)
+    value_or_not : (v : ValueTree U) → Decided (IsInValue n v)
     value_or_not (VariableTree v) = names v.it n
     value_or_not (ListTree ts) = items_or_not ts
     value_or_not (ObjectTree es) = entries_or_not es
     value_or_not _ = inr (λ h. h)
 
-    items_or_not : (ts : ItemTrees U) → Decided (StandsInItems n ts)
+    items_or_not : (ts : ItemTrees U) → Decided (IsInItems n ts)
     items_or_not no_items = inr (λ h. h)
     items_or_not (item_then p v ts) = either (value_or_not v) (items_or_not ts)
 
-    entries_or_not : (es : EntryTrees U) → Decided (StandsInEntries n es)
+    entries_or_not : (es : EntryTrees U) → Decided (IsInEntries n es)
     entries_or_not no_entries = inr (λ h. h)
     entries_or_not (entry_then k p v es) = either (value_or_not v) (entries_or_not es)
 
-  arguments_or_not : (given : Arguments U) → Decided (StandsInArguments n given)
-  arguments_or_not given = at_some_index (λ a. StandsInValue n a.it.value.it) (λ a. value_or_not a.it.value.it) given
+  arguments_or_not : (given : Arguments U) → Decided (IsInArguments n given)
+  arguments_or_not given = at_some_index (λ a. IsInValue n a.it.value.it) (λ a. value_or_not a.it.value.it) given
 
-  directives_or_not : (ds : Directives U) → Decided (StandsInDirectives n ds)
-  directives_or_not ds = at_some_index (λ e. StandsInArguments n e.it.arguments) (λ e. arguments_or_not e.it.arguments) ds
+  directives_or_not : (ds : Directives U) → Decided (IsInDirectives n ds)
+  directives_or_not ds = at_some_index (λ e. IsInArguments n e.it.arguments) (λ e. arguments_or_not e.it.arguments) ds
 
-  selection_or_not : (x : Standing U) → Decided (StandsInSelection n x)
+  selection_or_not : (x : Standing U) → Decided (IsInSelection n x)
   selection_or_not x = either (directives_or_not (selection_directives x.it))
-      (present (λ f. StandsInArguments n f.head.arguments) (as_field x) (λ f e. arguments_or_not f.head.arguments))
+      (present (λ f. IsInArguments n f.head.arguments) (as_field x) (λ f e. arguments_or_not f.head.arguments))
 
   pub used_or_not : (d : Document) (o : Operation) → Decided (IsUsedIn n d o)
   used_or_not d o = either (directives_or_not o.directives)
-      (either (at_reached d o (StandsInSelection n) selection_or_not) (at_reached_fragment d o (λ f. StandsInDirectives n f.directives) (λ f. directives_or_not f.directives)))
+      (either (at_reached d o (IsInSelection n) selection_or_not) (at_reached_fragment d o (λ f. IsInDirectives n f.directives) (λ f. directives_or_not f.directives)))
 
 -- ---- the rules
 

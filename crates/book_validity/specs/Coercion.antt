@@ -15,7 +15,7 @@ use Rattle.rule_definitions.specs.Words.{IfPresent}
 use Rattle.rule_definitions.specs.Judged.{Judged, IsBuiltInScalar, IsCustomScalar}
 use Rattle.rule_definitions.specs.Names.{named_in, defined_name}
 use Rattle.rule_definitions.specs.GivenValues.{entry_named, is_absent_or_null}
-use Rattle.rule_document_definitions.specs.UsedVariables.{StandsInValue}
+use Rattle.rule_document_definitions.specs.UsedVariables.{IsInValue}
 use Rattle.book_validity.specs.Words.{OperationVariables, Never, IsThere, named}
 
 -- the type named inside is the built-in scalar of that name
@@ -83,4 +83,4 @@ mutual
 pub record IsOfCorrectType (s : Judged) (variables : OperationVariables) (ty : TypeTree (Unit {0})) (v : ValueTree (Unit {0})) : Type 0 where
   pub coercible : IfPresent (s.type_named (named_in ty)) (λ t. IsCoercible s variables ty t v)
   -- 5.8.3 All Variable Uses Defined
-  pub defined : (n : List ℕ) → StandsInValue n v → IsThere (named defined_name variables n)
+  pub defined : (n : List ℕ) → IsInValue n v → IsThere (named defined_name variables n)

@@ -14,7 +14,7 @@ use Rattle.rule_definitions.specs.Rules.{SchemaRules}
 use Rattle.rule_document_definitions.specs.Named.{FragmentsFoundByName}
 use Rattle.rule_document_definitions.specs.Verdict.{DocumentRules, FieldSetRules, StandaloneRules}
 use Rattle.verdict_definitions.specs.Texts.{SourceText, Tree, Terms}
-use Rattle.verdict_definitions.specs.Meaning.{schema_of, schema_at_hand}
+use Rattle.verdict_definitions.specs.Meaning.{schema_of, document_schema}
 use Rattle.verdict_definitions.specs.Judge.{AreSchemasAccepted, IsDocumentAccepted, IsAccepted}
 use Rattle.book_validity.specs.Words.{Document, Never, Each, IsThere}
 use Rattle.book_validity.specs.Document.{IsValidDocument}
@@ -60,7 +60,7 @@ SchemasAcceptedByTheBook = (terms : Terms) (schemas : List SourceText) → AreSc
 
 abbrev pub DocumentsAcceptedByTheBook : Type 0
 DocumentsAcceptedByTheBook = (terms : Terms) (trees : List Tree) → SchemaRules (judged (schema_of terms trees)) → (nesting number : ℕ) (document : SourceText)
-    → IsDocumentAccepted (schema_at_hand terms trees) nesting number document ↔ IsValidOver (schema_for_documents terms trees) nesting number document
+    → IsDocumentAccepted (document_schema terms trees) nesting number document ↔ IsValidOver (schema_for_documents terms trees) nesting number document
 
 -- texts are accepted exactly when the book says yes
 abbrev pub AcceptedByTheBook : Type 0

@@ -105,8 +105,8 @@ module _ (terms : Terms) (texts : List SourceText) (number : ℕ) (text : Source
       }
 
       -- after a text that was not read: any text
-      pub behind_added : faults ≢ [] → AreAdded terms (texts ++ text ∷ []) (number + 1) trees sources faults
-      behind_added some = read_added trees sources (λ silent. absurd (some silent)) (λ silent. absurd (some silent))
+      pub after_added : faults ≢ [] → AreAdded terms (texts ++ text ∷ []) (number + 1) trees sources faults
+      after_added some = read_added trees sources (λ silent. absurd (some silent)) (λ silent. absurd (some silent))
 
       -- after texts that were all read: a text whose tree is kept
       pub tree_added : AreAdded terms (texts ++ text ∷ []) (number + 1) (trees ++ tree ∷ []) (sources ++ (number, unnamed_source text) ∷ []) faults

@@ -122,5 +122,5 @@ says_unread nesting first (text ∷ texts) faults (inl (read, rest)) fault h = i
 says_unread nesting first (text ∷ texts) faults (inr (here, (others, (is, unread, rest)))) fault h =
     elim (Contains-cons here others fault (subst (λ l. Contains l fault) is h)) [
       | inl same ↦ inl (subst (UnreadFault nesting first text) same unread)
-      | inr behind ↦ inr (says_unread nesting (first + 1) texts others rest fault behind)
+      | inr following ↦ inr (says_unread nesting (first + 1) texts others rest fault following)
     ]

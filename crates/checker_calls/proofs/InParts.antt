@@ -47,8 +47,8 @@ pub fits : (len : ℕ) (text : List ℕ) (new : ℕ) → len + length text < 2 ^
 fits len text new small is = omega (arith, small, is)
 
 -- a text is kept after the others
-pub kept_behind : (old new : Parts) (text : List ℕ) → new.kept.items ≡ old.kept.items ++ text → new.ranges.items ≡ old.ranges.items → new.last ≡ old.last → new.len ≡ old.len + length text → new.len < 2 ^ 64 → AddsBytes old text new
-kept_behind old new text kept ranges last len fits sound =
+pub kept_after : (old new : Parts) (text : List ℕ) → new.kept.items ≡ old.kept.items ++ text → new.ranges.items ≡ old.ranges.items → new.last ≡ old.last → new.len ≡ old.len + length text → new.len < 2 ^ 64 → AddsBytes old text new
+kept_after old new text kept ranges last len fits sound =
     let bytes : parts_bytes new ≡ parts_bytes old ++ text =
     (λ i. flat_map (part_of (kept i)) (ranges i) ++ drop (last i) (kept i))
     ∙ (λ i. parts_on old.kept.items text old.ranges.items sound.ranges i ++ drop-append-le old.last old.kept.items text sound.last i)
@@ -94,7 +94,7 @@ once_more old new text start end kept ranges last len fits ends lies sound =
 -- the same, unless memory ran out
 pub extended : {E : Type 0} (result : Result (Unit {0}) E) (old new : Parts) (text : List ℕ) → new.kept.items ≡ (if is_ok result then old.kept.items ++ text else old.kept.items) → new.ranges.items ≡ old.ranges.items → new.last ≡ old.last
     → new.len ≡ old.len + length text → new.len < 2 ^ 64 → OnOk result (AddsBytes old text new)
-extended (Ok done) old new text kept ranges last len fits = kept_behind old new text kept ranges last len fits
+extended (Ok done) old new text kept ranges last len fits = kept_after old new text kept ranges last len fits
 extended (Err refused) old new text kept ranges last len fits = tt
 
 pub repeated : {E : Type 0} (result : Result (Unit {0}) E) (old new : Parts) (text : List ℕ) (start : ℕ) → new.kept.items ≡ old.kept.items → OnOk result (new.ranges.items ≡ old.ranges.items ++ (old.last, length old.kept.items) ∷ (start, start + length text) ∷ [])
@@ -115,11 +115,11 @@ first_more parts i in' =
     ∙ ap (flat_map (part_of parts.kept.items)) (sym (take_more parts.ranges.items i (0, 0) in'))
 
 -- what comes after the first `i` parts
-abbrev behind_first : (parts : Parts) → ℕ → List ℕ
-behind_first parts i = flat_map (part_of parts.kept.items) (drop i parts.ranges.items) ++ drop parts.last parts.kept.items
+abbrev after_first : (parts : Parts) → ℕ → List ℕ
+after_first parts i = flat_map (part_of parts.kept.items) (drop i parts.ranges.items) ++ drop parts.last parts.kept.items
 
-first_behind : (parts : Parts) (i : ℕ) → parts_bytes parts ≡ first_bytes parts i ++ behind_first parts i
-first_behind parts i =
+first_after : (parts : Parts) (i : ℕ) → parts_bytes parts ≡ first_bytes parts i ++ after_first parts i
+first_after parts i =
     let part = part_of parts.kept.items in
     let last = drop parts.last parts.kept.items in
     ap (λ ranges. flat_map part ranges ++ last) (sym (take-append-drop i parts.ranges.items))
@@ -127,16 +127,16 @@ first_behind parts i =
     ∙ append_assoc (first_bytes parts i) (flat_map part (drop i parts.ranges.items)) last
 
 -- what a text between others leaves room for
-pub room_behind : (front text rest all : List ℕ) (before bound : ℕ) → before ≡ length front → all ≡ front ++ (text ++ rest) → length all < bound → before + length text < bound
-room_behind front text rest all before bound count is below =
+pub room_after : (front text rest all : List ℕ) (before bound : ℕ) → before ≡ length front → all ≡ front ++ (text ++ rest) → length all < bound → before + length text < bound
+room_after front text rest all before bound count is below =
     let long : length all ≡ length front + (length text + length rest) = ap length is ∙ length-append front (text ++ rest) ∙ ap (λ n. length front + n) (length-append text rest) in
     omega (arith, count, long, below)
 
 module _ {W : Type 0} (contents : W → Option (List ℕ)) (old mid new : Device W) where
   -- a text is written after others, but not all of it
-  pub fault_behind : (front text rest all : List ℕ) (before : ℕ) (fault : RunFault) → before ≡ length front → all ≡ front ++ (text ++ rest) → Appends (contents (device_inner old)) (contents (device_inner mid)) front
+  pub fault_after : (front text rest all : List ℕ) (before : ℕ) (fault : RunFault) → before ≡ length front → all ≡ front ++ (text ++ rest) → Appends (contents (device_inner old)) (contents (device_inner mid)) front
       → IsPutFaultAfter contents before mid new text fault → IsPutFault contents old new all fault
-  fault_behind front text rest all before fault count is out (taken, told, (short, failed, put)) =
+  fault_after front text rest all before fault count is out (taken, told, (short, failed, put)) =
       let long : length all ≡ length front + (length text + length rest) = ap length is ∙ length-append front (text ++ rest) ∙ ap (λ n. length front + n) (length-append text rest) in
       let cut : take (before + taken) all ≡ front ++ take taken text =
       (λ i. take (count i + taken) (is i)) ∙ take-append-add front (text ++ rest) taken ∙ ap (λ bytes. front ++ bytes) (take-append-le taken text rest (omega (arith, short))) in
@@ -153,13 +153,13 @@ module _ (parts : Parts) (sound : AreSound parts) (ranges : List (ℕ × ℕ)) (
   pub next_more : i < length ranges → first_bytes parts i ++ part_of kept (get_or ranges i (0, 0)) ≡ first_bytes parts (i + 1)
   next_more in' = (λ k. first_bytes parts i ++ part_of (kept_is k) (get_or (ranges_are k) i (0, 0))) ∙ first_more parts i (omega (arith, in', ap length ranges_are))
 
-  next_is : i < length ranges → parts_bytes parts ≡ first_bytes parts i ++ (part_of kept (get_or ranges i (0, 0)) ++ behind_first parts (i + 1))
+  next_is : i < length ranges → parts_bytes parts ≡ first_bytes parts i ++ (part_of kept (get_or ranges i (0, 0)) ++ after_first parts (i + 1))
   next_is in' =
-      first_behind parts (i + 1) ∙ ap (λ bytes. bytes ++ behind_first parts (i + 1)) (sym (next_more in'))
-      ∙ append_assoc (first_bytes parts i) (part_of kept (get_or ranges i (0, 0))) (behind_first parts (i + 1))
+      first_after parts (i + 1) ∙ ap (λ bytes. bytes ++ after_first parts (i + 1)) (sym (next_more in'))
+      ∙ append_assoc (first_bytes parts i) (part_of kept (get_or ranges i (0, 0))) (after_first parts (i + 1))
 
   pub next_room : i < length ranges → before + length (part_of kept (get_or ranges i (0, 0))) < 2 ^ 64
-  next_room in' = room_behind (first_bytes parts i) (part_of kept (get_or ranges i (0, 0))) (behind_first parts (i + 1)) (parts_bytes parts) before (2 ^ 64) count (next_is in') below
+  next_room in' = room_after (first_bytes parts i) (part_of kept (get_or ranges i (0, 0))) (after_first parts (i + 1)) (parts_bytes parts) before (2 ^ 64) count (next_is in') below
 
   -- the last part
   pub last_is : length ranges ≤ i → parts_bytes parts ≡ first_bytes parts i ++ slice_range kept parts.last (length kept)
@@ -171,16 +171,16 @@ module _ (parts : Parts) (sound : AreSound parts) (ranges : List (ℕ × ℕ)) (
   last_and_none past = last_is past ∙ ap (λ bytes. first_bytes parts i ++ bytes) (sym (append-nil (slice_range kept parts.last (length kept))))
 
   pub last_room : length ranges ≤ i → before + length (slice_range kept parts.last (length kept)) < 2 ^ 64
-  last_room past = room_behind (first_bytes parts i) (slice_range kept parts.last (length kept)) [] (parts_bytes parts) before (2 ^ 64) count (last_and_none past) below
+  last_room past = room_after (first_bytes parts i) (slice_range kept parts.last (length kept)) [] (parts_bytes parts) before (2 ^ 64) count (last_and_none past) below
 
   module _ {W : Type 0} (contents : W → Option (List ℕ)) (old mid new : Device W) (fault : RunFault) (out : Appends (contents (device_inner old)) (contents (device_inner mid)) (first_bytes parts i)) where
     -- one of them is not written whole
     pub next_fault : i < length ranges → IsPutFaultAfter contents before mid new (part_of kept (get_or ranges i (0, 0))) fault → IsPutFault contents old new (parts_bytes parts) fault
-    next_fault in' h = fault_behind contents old mid new (first_bytes parts i) (part_of kept (get_or ranges i (0, 0))) (behind_first parts (i + 1)) (parts_bytes parts) before fault count (next_is in') out h
+    next_fault in' h = fault_after contents old mid new (first_bytes parts i) (part_of kept (get_or ranges i (0, 0))) (after_first parts (i + 1)) (parts_bytes parts) before fault count (next_is in') out h
 
     -- nor the last
     pub last_fault : length ranges ≤ i → IsPutFaultAfter contents before mid new (slice_range kept parts.last (length kept)) fault → IsPutFault contents old new (parts_bytes parts) fault
-    last_fault past h = fault_behind contents old mid new (first_bytes parts i) (slice_range kept parts.last (length kept)) [] (parts_bytes parts) before fault count (last_and_none past) out h
+    last_fault past h = fault_after contents old mid new (first_bytes parts i) (slice_range kept parts.last (length kept)) [] (parts_bytes parts) before fault count (last_and_none past) out h
 
 -- so many bytes are out with one more text
 pub counted_on : (new old : ℕ) (front text all : List ℕ) → new ≡ old + length text → old ≡ length front → front ++ text ≡ all → new ≡ length all

@@ -18,25 +18,25 @@ AllZip-both P (a ∷ xs) [] x y h p = absurd h
 AllZip-both P (a ∷ xs) (b ∷ ys) x y h p = (h.0, AllZip-both P xs ys x y h.1 p)
 
 module _ {D : Type 0} (old now : List D) (i : ℕ) (d r : D) (inside : i < length now) (rest : drop i now ≡ drop i old) (is : d ≡ get_or now i r) where
-  at_hand : drop i old ≡ d ∷ drop (i + 1) now
-  at_hand = sym rest ∙ (drop-cons now i r inside ∙ rw (is, add-one) refl)
+  for_documents : drop i old ≡ d ∷ drop (i + 1) now
+  for_documents = sym rest ∙ (drop-cons now i r inside ∙ rw (is, add-one) refl)
 
   -- one more device is read
   pub read_on : {T : Type 0} (P : D → T → Type 0) (texts : List T) (t : T) → AllZip P (take i old) texts → P d t → AllZip P (take (i + 1) old) (texts ++ t ∷ [])
-  read_on P texts t h p = subst (λ xs. AllZip P xs (texts ++ t ∷ [])) (sym (take-add i 1 old ∙ ap (λ l. take i old ++ take 1 l) at_hand)) (AllZip-both P (take i old) texts d t h p)
+  read_on P texts t h p = subst (λ xs. AllZip P xs (texts ++ t ∷ [])) (sym (take-add i 1 old ∙ ap (λ l. take i old ++ take 1 l) for_documents)) (AllZip-both P (take i old) texts d t h p)
 
   -- the devices after it are unchanged
   pub rest_on : (e : D) → drop (i + 1) (set now i e) ≡ drop (i + 1) old
-  rest_on e = drop-set-lt (i + 1) now i e (omega arith) ∙ behind where
-    behind : drop (i + 1) now ≡ drop (i + 1) old
-    behind = sym (drop-drop 1 i now) ∙ ap (drop 1) rest ∙ drop-drop 1 i old
+  rest_on e = drop-set-lt (i + 1) now i e (omega arith) ∙ following where
+    following : drop (i + 1) now ≡ drop (i + 1) old
+    following = sym (drop-drop 1 i now) ∙ ap (drop 1) rest ∙ drop-drop 1 i old
 
   -- the current device in the whole list
   pub at_old : slice_get old i ≡ Some d
   at_old =
-      let read : get_or (drop i old) 0 r ≡ d = ap (λ l. get_or l 0 r) at_hand in
+      let read : get_or (drop i old) 0 r ≡ d = ap (λ l. get_or l 0 r) for_documents in
       let same : get_or old i r ≡ d = grind (arith, common_steps, read) in
-      slice_get-get_or old i r (omega (arith, ap length at_hand, length-drop i old)) ∙ ap (λ x. Some x) same
+      slice_get-get_or old i r (omega (arith, ap length for_documents, length-drop i old)) ∙ ap (λ x. Some x) same
 
 -- a written place reads as what was written
 pub at_set : {D : Type 0} (xs : List D) (i : ℕ) (e : D) → i < length xs → slice_get (slice_set xs i e) i ≡ Some e

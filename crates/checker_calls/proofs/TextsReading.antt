@@ -9,11 +9,11 @@ use Rattle.verdict_definitions.specs.Says.{AnyFault, spent}
 use Rattle.checker_calls.specs.Unread.{IsUnread}
 use Rattle.checker_calls.specs.declared.reading.Unread.{Unread}
 use Rattle.checker_calls.specs.declared.reading.Unread.TheVariants as unread
-use Rattle.checker_calls.specs.Added.{AreAdded, IsToldBehind}
+use Rattle.checker_calls.specs.Added.{AreAdded, IsToldAfter}
 use Rattle.checker_calls.specs.TextSources.{Sources}
 use Rattle.checker_calls.specs.TextsView.{terms_of, texts_of, trees_of, all_sources, IsReadingAt, IsReadingOf, IsBefore}
 use Rattle.checker_calls.specs.declared.schema_texts.SchemaTexts.{SchemaTexts}
-use Rattle.checker_calls.proofs.Adding.{spent_added, fault_added, behind_added, tree_added}
+use Rattle.checker_calls.proofs.Adding.{spent_added, fault_added, after_added, tree_added}
 
 -- with the number that comes next
 pub reading_of : (texts : List SourceText) (s : SchemaTexts) (number : ℕ) → s.files ≡ number → IsReadingAt texts number s → IsReadingOf texts s
@@ -36,7 +36,7 @@ spent_kept s is none text faults told =
 
 module _ (s : SchemaTexts) (file : FileId) (before : IsBefore (texts_of s) file s) (text : SourceText) where
   -- one that is not read
-  pub unread_kept : (u : Unread) → IsUnread s.nesting file.0 text u → (faults : List AnyFault) → IsToldBehind u (diagnostics_of s.unread) faults
+  pub unread_kept : (u : Unread) → IsUnread s.nesting file.0 text u → (faults : List AnyFault) → IsToldAfter u (diagnostics_of s.unread) faults
       → AreAdded (terms_of s) (texts_of s ++ text ∷ []) (file.0 + 1) (trees_of s) (all_sources s.documents.items) faults
   unread_kept unread.Memory is faults told = absurd told
   unread_kept (unread.Fault place details) is faults told =
@@ -45,8 +45,8 @@ module _ (s : SchemaTexts) (file : FileId) (before : IsBefore (texts_of s) file 
 
   module _ (tree : Tree) (reads : ReadsText file.0 text tree) (nests : NestingBound s.nesting text → ⊥) where
     -- one that is read, after one that is not
-    pub behind_kept : diagnostics_of s.unread ≢ [] → AreAdded (terms_of s) (texts_of s ++ text ∷ []) (file.0 + 1) (trees_of s) (all_sources s.documents.items) (diagnostics_of s.unread)
-    behind_kept some = behind_added (terms_of s) (texts_of s) file.0 text (trees_of s) (all_sources s.documents.items) (diagnostics_of s.unread) before.added before.left tree reads nests some
+    pub after_kept : diagnostics_of s.unread ≢ [] → AreAdded (terms_of s) (texts_of s ++ text ∷ []) (file.0 + 1) (trees_of s) (all_sources s.documents.items) (diagnostics_of s.unread)
+    after_kept some = after_added (terms_of s) (texts_of s) file.0 text (trees_of s) (all_sources s.documents.items) (diagnostics_of s.unread) before.added before.left tree reads nests some
 
     -- one of which the tree is kept
     pub tree_kept : (trees : List Tree) (sources : Sources) → trees ≡ trees_of s ++ tree ∷ [] → sources ≡ all_sources s.documents.items ++ (file.0, unnamed_source text) ∷ []

@@ -22,6 +22,6 @@ pub record AreAdded (terms : Terms) (texts : List SourceText) (number : ℕ) (tr
   pub next : IsNextNumber terms texts faults number
 
 -- the fault of an unread text is added after the others
-abbrev pub IsToldBehind : Unread → List AnyFault → List AnyFault → Type 0
-IsToldBehind (unread.Fault place details) old new = new ≡ old ++ details_at (Some place, details) ∷ []
-IsToldBehind unread.Memory old new = ⊥
+abbrev pub IsToldAfter : Unread → List AnyFault → List AnyFault → Type 0
+IsToldAfter (unread.Fault place details) old new = new ≡ old ++ details_at (Some place, details) ∷ []
+IsToldAfter unread.Memory old new = ⊥

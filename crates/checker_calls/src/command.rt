@@ -59,7 +59,7 @@ pub(crate) fn program_command<'a>(alloc: Global) -> Result<Command<'a>, AllocErr
     ensures { IfOk result (λ c. (names : ValueParser) × AreLayoutNames names × (app_of c ≡ program names)) }
 {
     Command::new(alloc, "graphql-checked")
-        .about("Checks a GraphQL document over its schemas: writes them anew, or tells each fault")
+        .about("Checks a GraphQL document over its schemas: rewrites both, or tells each fault")
         .arg(layout_option(alloc))?
         .arg(nesting_option(alloc))?
         .arg(document_argument(alloc))?

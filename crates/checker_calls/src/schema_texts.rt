@@ -8,7 +8,7 @@ ghost use Rattle.verdict_definitions.specs.in_read.Reads.{NestingBound};
 ghost use Rattle.verdict_definitions.specs.in_read.ReadFaults.{unnamed_source};
 ghost use Rattle.verdict_definitions.specs.in_faults.DetailsView.{diagnostics_of};
 ghost use Rattle.verdict_definitions.specs.Texts.{ReadsText};
-ghost use Rattle.checker_calls.specs.Added.{IsToldBehind};
+ghost use Rattle.checker_calls.specs.Added.{IsToldAfter};
 ghost use Rattle.checker_calls.specs.TextsView.{terms_of, texts_of, IsReadingOf, IsBefore};
 
 use crate::reading::{Unread, read};
@@ -131,7 +131,7 @@ impl SchemaTexts {
 
 /// Tells why a text is not read, after the faults of the list.
 fn tell(list: &mut DiagnosticList, unread: Unread) -> Result<(), AllocError>
-    ensures { OnOk result (IsToldBehind unread (diagnostics_of list.old) (diagnostics_of list.new)) }
+    ensures { OnOk result (IsToldAfter unread (diagnostics_of list.old) (diagnostics_of list.new)) }
 {
     match unread {
         Unread::Fault { place, details } => list.push(Some(place), details),

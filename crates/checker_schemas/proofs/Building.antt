@@ -65,6 +65,6 @@ module _ (b : BuilderValue) where
     judged_schema kept out is holds kept_is = record {
       folds = folds;
       holds = subst (λ s. SchemaRules (judged s)) built.is holds;
-      at_hand = kept_is ∙ ap validated built.is;
+      for_documents = kept_is ∙ ap validated built.is;
       written = is ∙ ap written built.is;
     }

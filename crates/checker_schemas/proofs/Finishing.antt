@@ -159,7 +159,7 @@ module _ (terms : Terms) (texts : List SourceText) (trees : List Tree) (read : A
       nesting = refl;
       number = next;
       sources = kept ∙ filled.sources ∙ ap (with_sources []) of_texts ∙ all_sources_stay terms.first_text texts;
-      at_hand = judged.at_hand ∙ ap validated (folds_to terms trees origins b filled);
+      for_documents = judged.for_documents ∙ ap validated (folds_to terms trees origins b filled);
       written = judged.written ∙ ap written (folds_to terms trees origins b filled);
     }
 
@@ -173,8 +173,8 @@ module _ (terms : Terms) (texts : List SourceText) (number : ℕ) (trees : List 
     pub are_all_read : AreRead terms.nesting terms.first_text texts
     are_all_read = read_unread terms.nesting terms.first_text texts (subst (UnreadFaults terms.nesting terms.first_text texts) silent added.unread)
 
-    pub number_behind : number ≡ document_number terms texts
-    number_behind = by added.next
+    pub number_after : number ≡ document_number terms texts
+    number_after = by added.next
       where
         by : IsNextNumber terms texts faults number → number ≡ document_number terms texts
         by (inl e) = e

@@ -23,24 +23,24 @@ below_more number [] source below = (omega arith, tt)
 below_more number (s ∷ ss) source below = let less = below.0 in (omega (arith, less), below_more number ss source below.1)
 
 -- one with a greater number goes after them
-insert_behind : (number : ℕ) (source : Source) (ss : Sources) → AreBelow number ss → insert_entry nat_eq ss number source ≡ ss ++ (number, source) ∷ []
-insert_behind number source [] below = refl
-insert_behind number source (s ∷ ss) below =
+insert_after : (number : ℕ) (source : Source) (ss : Sources) → AreBelow number ss → insert_entry nat_eq ss number source ≡ ss ++ (number, source) ∷ []
+insert_after number source [] below = refl
+insert_after number source (s ∷ ss) below =
     let less = below.0 in
     let apart : nat_eq number s.0 ≡ false = ne_eqb number s.0 (λ e. lt_irrefl number (omega (arith, e, less))) in
-    ap (λ b. cond b ((s.0, source) ∷ ss) (s ∷ insert_entry nat_eq ss number source)) apart ∙ ap (λ l. s ∷ l) (insert_behind number source ss below.1)
+    ap (λ b. cond b ((s.0, source) ∷ ss) (s ∷ insert_entry nat_eq ss number source)) apart ∙ ap (λ l. s ∷ l) (insert_after number source ss below.1)
 
 append_one : {X : Type 0} (xs ys : List X) (x : X) → (xs ++ x ∷ []) ++ ys ≡ xs ++ x ∷ ys
 append_one [] ys x = refl
 append_one (z ∷ xs) ys x = ap (λ l. z ∷ l) (append_one xs ys x)
 
-sources_behind : (first : ℕ) (texts : List SourceText) (old : Sources) → AreBelow first old → with_sources old (text_sources first texts) ≡ old ++ text_sources first texts
-sources_behind first [] old below = sym (append-nil old)
-sources_behind first (text ∷ texts) old below =
-    ap (λ ss. with_sources ss (text_sources (first + 1) texts)) (insert_behind first (unnamed_source text) old below)
-    ∙ sources_behind (first + 1) texts (old ++ (first, unnamed_source text) ∷ []) (below_more first old (unnamed_source text) below)
+sources_after : (first : ℕ) (texts : List SourceText) (old : Sources) → AreBelow first old → with_sources old (text_sources first texts) ≡ old ++ text_sources first texts
+sources_after first [] old below = sym (append-nil old)
+sources_after first (text ∷ texts) old below =
+    ap (λ ss. with_sources ss (text_sources (first + 1) texts)) (insert_after first (unnamed_source text) old below)
+    ∙ sources_after (first + 1) texts (old ++ (first, unnamed_source text) ∷ []) (below_more first old (unnamed_source text) below)
     ∙ append_one old (text_sources (first + 1) texts) (first, unnamed_source text)
 
 -- the sources of texts are those of a builder that has them
 pub all_sources_stay : (first : ℕ) (texts : List SourceText) → with_sources [] (text_sources first texts) ≡ text_sources first texts
-all_sources_stay first texts = sources_behind first texts [] tt
+all_sources_stay first texts = sources_after first texts [] tt

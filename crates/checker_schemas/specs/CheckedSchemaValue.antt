@@ -3,7 +3,7 @@ use Rattle.std.specs.Prelude.{◌≡◌, ℕ, List}
 use Rattle.graphql_names.specs.Placed.{Place}
 use Rattle.schema_types.specs.SchemaTree.{SchemaTree}
 use Rattle.checker_calls.specs.in_verdict_definitions.Texts.{SourceText, Tree, Terms, document_number}
-use Rattle.checker_calls.specs.in_verdict_definitions.Meaning.{schema_at_hand}
+use Rattle.checker_calls.specs.in_verdict_definitions.Meaning.{document_schema}
 use Rattle.checker_calls.specs.in_verdict_definitions.Judge.{AreSchemasAccepted}
 use Rattle.checker_calls.specs.in_verdict_definitions.Out.{Out}
 use Rattle.checker_calls.specs.TextSources.{Sources, text_sources}
@@ -22,7 +22,7 @@ pub record IsCheckedSchemaOf (terms : Terms) (schemas : List SourceText) (schema
   pub accepted : AreSchemasAccepted terms schemas
   pub nesting : schema.nesting ≡ terms.nesting
   pub number : schema.number ≡ document_number terms schemas
-  pub at_hand : schema.schema ≡ schema_at_hand terms accepted.judged.trees
+  pub for_documents : schema.schema ≡ document_schema terms accepted.judged.trees
   pub sources : schema.sources ≡ text_sources terms.first_text schemas
   pub written : schema.written ≡ Out terms accepted.judged.trees
 

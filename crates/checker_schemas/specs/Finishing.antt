@@ -91,7 +91,7 @@ RefusalOfSchemaRules schema Failed = ⊥
 pub record IsJudgedSchema (b : BuilderValue) (schema : SchemaTree Place) (out : Tree) : Type 0 where
   pub folds : FoldingRules built_in_definitions b.first (counted b)
   pub holds : SchemaRules (judged (folded b))
-  pub at_hand : schema ≡ validated (folded b)
+  pub for_documents : schema ≡ validated (folded b)
   pub written : out ≡ written (folded b)
 
 -- folding rules are broken; or none is, and rules on schemas are

@@ -58,8 +58,8 @@ module _ {P : Type 0} where
   }
 
   -- what is left after some selections were passed
-  abbrev left_behind : WalkState P → List (TypedSelection P) → List (Member P)
-  left_behind w passed = left_in_fragments w.nested w.fragments (length w.fragments - w.entered) (note_all w.fragments w.noted passed) w.entered
+  abbrev left_after : WalkState P → List (TypedSelection P) → List (Member P)
+  left_after w passed = left_in_fragments w.nested w.fragments (length w.fragments - w.entered) (note_all w.fragments w.noted passed) w.entered
 
   names_noted : (w : WalkState P) (s : TypedSelection P) (passed : List (TypedSelection P)) → note_all w.fragments w.noted (s ∷ passed) ≡ note_all w.fragments (fold (note w.fragments) w.noted (spread_names s)) passed
   names_noted w (TypedField p d h s) passed = refl
@@ -71,7 +71,7 @@ module _ {P : Type 0} where
       let inside : pending_members (with_next (ty, s) w) ≡ (ty, s) ∷ pending_members (after s w) =
       ap (λ l. l ++ pending_members w) (members_of-inner w.nested ty s)
       ∙ ap (λ l. (ty, s) ∷ l) (sym (flat_map-append (members_from w.nested) (inner_members w.nested s) w.pending)) in
-      ap (λ l. l ++ left_behind w (bare_selections l)) inside
+      ap (λ l. l ++ left_after w (bare_selections l)) inside
       ∙ ap (λ ns. (ty, s) ∷ (pending_members (after s w) ++ left_in_fragments w.nested w.fragments (length w.fragments - w.entered) ns w.entered)) (names_noted w s (bare_selections (pending_members (after s w))))
 
   -- a walk that has just passed the selection
@@ -105,12 +105,12 @@ module _ {P : Type 0} where
   -- nothing is left where no fragment is noted that is not entered, or all are entered
   pub none_noted : (w : WalkState P) → w.pending ≡ [] → slice_get w.noted w.entered ≡ None → left_members w ≡ []
   none_noted w none is =
-      ap (λ ps. flat_map (members_from w.nested) ps ++ left_behind w (bare_selections (flat_map (members_from w.nested) ps))) none
+      ap (λ ps. flat_map (members_from w.nested) ps ++ left_after w (bare_selections (flat_map (members_from w.nested) ps))) none
       ∙ none_after w.nested w.fragments (length w.fragments - w.entered) w.noted w.entered is
 
   pub all_entered : (w : WalkState P) → w.pending ≡ [] → length w.fragments ≤ w.entered → left_members w ≡ []
   all_entered w none is =
-      ap (λ ps. flat_map (members_from w.nested) ps ++ left_behind w (bare_selections (flat_map (members_from w.nested) ps))) none
+      ap (λ ps. flat_map (members_from w.nested) ps ++ left_after w (bare_selections (flat_map (members_from w.nested) ps))) none
       ∙ (let full : length w.fragments - w.entered ≡ 0 = omega (is, arith) in ap (λ room. left_in_fragments w.nested w.fragments room w.noted w.entered) full)
 
   after_one : (w : WalkState P) (place room : ℕ) → slice_get w.noted w.entered ≡ Some place → length w.fragments - w.entered ≡ suc room
@@ -124,7 +124,7 @@ module _ {P : Type 0} where
   entered w place none within noted =
       let room : ℕ = length w.fragments - (w.entered + 1) in
       sym (
-      ap (λ ps. flat_map (members_from w.nested) ps ++ left_behind w (bare_selections (flat_map (members_from w.nested) ps))) none
+      ap (λ ps. flat_map (members_from w.nested) ps ++ left_after w (bare_selections (flat_map (members_from w.nested) ps))) none
       ∙ after_one w place room noted (omega (within, arith))
       ∙ ap (λ l. members_at w.nested w.fragments place ++ left_in_fragments w.nested w.fragments room (note_all w.fragments w.noted l) (w.entered + 1)) (sym (bare_at w.nested (slice_get w.fragments place)))
       ∙ ap (λ l. l ++ left_in_fragments w.nested w.fragments room (note_all w.fragments w.noted (bare_selections l)) (w.entered + 1)) (in_members w.nested (slice_get w.fragments place)))

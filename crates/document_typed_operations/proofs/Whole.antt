@@ -322,8 +322,8 @@ module _ {P : Type 0} (nested : Bool) (fs : Fragments P) (start : TypedSet P) wh
       by false is further = Contains-append_right (entry_if (slice_get fs j)) (flat_map (λ k. entry_if (slice_get fs k)) js) f (further (sym (ap (λ b. b || has i js) is) ∙ h) at)
 
   -- an index that is entered, and is that of the fragment
-  abbrev StandsIn : List ℕ → NamedSet P → Type 0
-  StandsIn is f = (i : ℕ) × ((has i is ≡ true) × (slice_get fs i ≡ Some f))
+  abbrev IsInSelections : List ℕ → NamedSet P → Type 0
+  IsInSelections is f = (i : ℕ) × ((has i is ≡ true) × (slice_get fs i ≡ Some f))
 
   place_named : (n : List ℕ) (f : NamedSet P) → fragment_named fs n ≡ Some f → (i : ℕ) × ((place_in fs n ≡ Some i) × (slice_get fs i ≡ Some f))
   place_named n f named =
@@ -331,13 +331,13 @@ module _ {P : Type 0} (nested : Bool) (fs : Fragments P) (start : TypedSet P) wh
       (found.0, (position-map (λ (g : NamedSet P). g.0) (bytes_eq n) fs ∙ found.1.0, found.1.1))
 
   -- what is reached is at one of the indices, if what the start spreads is, and what these spread is
-  stands_in : (is : List ℕ) → ((n : List ℕ) → Spreads nested start n → (i : ℕ) → place_in fs n ≡ Some i → has i is ≡ true) → ((i : ℕ) → has i is ≡ true → SpreadsAmong nested fs is i)
-      → (f : NamedSet P) → ReachedFragment nested fs start f → StandsIn is f
-  stands_in is from closed f (by_start n spread named) =
+  lies_in : (is : List ℕ) → ((n : List ℕ) → Spreads nested start n → (i : ℕ) → place_in fs n ≡ Some i → has i is ≡ true) → ((i : ℕ) → has i is ≡ true → SpreadsAmong nested fs is i)
+      → (f : NamedSet P) → ReachedFragment nested fs start f → IsInSelections is f
+  lies_in is from closed f (by_start n spread named) =
       let found = place_named n f named in
       (found.0, (from n spread found.0 found.1.0, found.1.1))
-  stands_in is from closed f (by_fragment g n reached spread named) =
-      let from_g = stands_in is from closed g reached in
+  lies_in is from closed f (by_fragment g n reached spread named) =
+      let from_g = lies_in is from closed g reached in
       let found = place_named n f named in (
         found.0,
         (
@@ -376,7 +376,7 @@ module _ {P : Type 0} (nested : Bool) (fs : Fragments P) (start : TypedSet P) wh
     order = flat_map (λ i. entry_if (slice_get fs i)) entered_all;
     reached = λ f. (
       order_reached entered_all all_entered.good.known f,
-      λ r. let at = stands_in entered_all (λ n h i place. all_entered.kept i (start_notes.all n h i place)) all_entered.closed f r in order_has entered_all at.0 f at.1.0 at.1.1,
+      λ r. let at = lies_in entered_all (λ n h i place. all_entered.kept i (start_notes.all n h i place)) all_entered.closed f r in order_has entered_all at.0 f at.1.0 at.1.1,
     );
     once = once entered_all all_entered.good.known all_entered.good.distinct;
     members = left_of_start;

@@ -11,7 +11,7 @@ use Rattle.document_typing.specs.MeantTree.{Definition}
 use Rattle.document_typing.specs.Meanings.{Meanings, inner_type}
 use Rattle.document_typing.specs.KeptSelections.{is_leaf, may_select}
 use Rattle.document_typing.specs.TypingFaults as rule
-use Rattle.document_typing.specs.TypingFaults.{TypingFault, typing_fault_at, UndefinedField, SubselectionOnScalarType, SubselectionOnEnumType, UndefinedTypeInInlineFragmentTypeCondition, SelectionBreaks, StandsIn, SetFails}
+use Rattle.document_typing.specs.TypingFaults.{TypingFault, typing_fault_at, UndefinedField, SubselectionOnScalarType, SubselectionOnEnumType, UndefinedTypeInInlineFragmentTypeCondition, SelectionBreaks, IsInSelections, SetFails}
 use Rattle.document_typing.specs.SetFaults.{leaf_faults, selection_faults, set_faults}
 
 -- what a test that fails says
@@ -75,8 +75,8 @@ module _ {P : Type 0} (m : Meanings) where
   condition-broken t p n ds ts ss f deeper false e c =
       (t, (InlineTree p (Some n) ds ts, (rule.first ss, rule.undefined_type_in_inline_fragment_type_condition (e, only (typing_fault_at p (UndefinedTypeInInlineFragmentTypeCondition n.it)) f c))))
 
-  behind : (t : List ℕ) (x : SelectionTree P) (ss : SelectionTrees P) (f : TypingFault P) → SetFails m t ss f → SetFails m t (selection_then x ss) f
-  behind t x ss f (u, (s, (at, breaks))) = (u, (s, (rule.later t x ss at, breaks)))
+  following : (t : List ℕ) (x : SelectionTree P) (ss : SelectionTrees P) (f : TypingFault P) → SetFails m t ss f → SetFails m t (selection_then x ss) f
+  following t x ss f (u, (s, (at, breaks))) = (u, (s, (rule.later t x ss at, breaks)))
 
   mutual
     selection-broken : (s : SelectionTree P) (ss : SelectionTrees P) (t : List ℕ) (f : TypingFault P) → Contains (selection_faults m s t) f → SetFails m t (selection_then s ss) f
@@ -89,7 +89,7 @@ module _ {P : Type 0} (m : Meanings) where
     set-broken no_selections t f c = absurd (not_in_nil f c)
     set-broken (selection_then s ss) t f c = elim (Contains-append_cases (selection_faults m s t) (set_faults m ss t) f c) [
       | inl a ↦ selection-broken s ss t f a
-      | inr b ↦ behind t s ss f (set-broken ss t f b)
+      | inr b ↦ following t s ss f (set-broken ss t f b)
     ]
 
   -- ---- what breaks a rule is told
@@ -122,7 +122,7 @@ module _ {P : Type 0} (m : Meanings) where
       subst (λ b. Contains (if b then set_faults m ts c.it else typing_fault_at p (UndefinedTypeInInlineFragmentTypeCondition c.it) ∷ []) f) (sym e) (is_only (typing_fault_at p (UndefinedTypeInInlineFragmentTypeCondition c.it)) f x)
 
   module _ (u : List ℕ) (s : SelectionTree P) (f : TypingFault P) (breaks : SelectionBreaks m u s f) where
-    stands-told : (t : List ℕ) (ts : SelectionTrees P) → StandsIn m u s t ts → Contains (set_faults m ts t) f
+    stands-told : (t : List ℕ) (ts : SelectionTrees P) → IsInSelections m u s t ts → Contains (set_faults m ts t) f
     stands-told t ts (rule.first ss) = Contains-append_left (selection_faults m s u) (set_faults m ss u) f (here-told s u f breaks)
     stands-told t ts (rule.later _ x ss at) = Contains-append_right (selection_faults m x t) (set_faults m ss t) f (stands-told t ss at)
     stands-told t ts (rule.in_field _ p h ns ss d e may at) =

@@ -17,7 +17,7 @@ use Rattle.document_typing.specs.Meanings.{Meanings, inner_type}
 use Rattle.document_typing.specs.KeptSelections.{may_select, kept, kept_all}
 use Rattle.document_typing.specs.KeptDocument.{Based, anonymous_here, named_here, fragment_here, text_or_empty, operation_name, fragment_name, kept_anonymous, kept_named, kept_operations, kept_fragments, meant_operation, meant_fragment, named_entry, fragment_entry, kept_document}
 use Rattle.document_typing.specs.TypingFaults as rule
-use Rattle.document_typing.specs.TypingFaults.{TypingFault, SelectionBreaks, StandsIn, SetFails, TypingFails, TypingRules}
+use Rattle.document_typing.specs.TypingFaults.{TypingFault, SelectionBreaks, IsInSelections, SetFails, TypingFails, TypingRules}
 use Rattle.document_typing.specs.FullList.{is_kept}
 use Rattle.document_typing.specs.OutDoc.{is_anonymous, is_named_operation, is_fragment_definition, out_doc, written_selection, written_selections, written_operation, written_fragment, written_document}
 use Rattle.document_typing.specs.TypedDefinitions.{based}

@@ -9,7 +9,7 @@ use Rattle.schema_types.specs.in_components.Lists.{StandsAfter, has_name}
 use Rattle.document_typing.specs.Meanings.{Meanings}
 use Rattle.document_typing.specs.KeptSelections.{kept}
 use Rattle.document_typing.specs.KeptDocument.{text_or_empty, operation_name, fragment_name, kept_anonymous, kept_named, kept_operations, kept_fragments, is_operation}
-use Rattle.document_typing.specs.TypingFaults.{TypingFault, typing_fault_at, StandsIn, SelectionBreaks, DefinitionBreaks, AmbiguousAnonymousOperation}
+use Rattle.document_typing.specs.TypingFaults.{TypingFault, typing_fault_at, IsInSelections, SelectionBreaks, DefinitionBreaks, AmbiguousAnonymousOperation}
 
 module _ {P : Type 0} where
   -- whether a definition after these is kept: its root or type condition exists, and no kept one before it has the same name, or also none
@@ -25,7 +25,7 @@ module _ {P : Type 0} where
 
   -- for a set with these selections on the type t: a fault for each selection that is left out, in this set or in a set that is kept inside it
   abbrev pub TellsSet : Meanings → List ℕ → SelectionTrees P → List (TypingFault P) → Type 0
-  TellsSet m t ts faults = (u : List ℕ) (s : SelectionTree P) → StandsIn m u s t ts → kept m s u ≡ [] → HasFault faults (SelectionBreaks m u s)
+  TellsSet m t ts faults = (u : List ℕ) (s : SelectionTree P) → IsInSelections m u s t ts → kept m s u ≡ [] → HasFault faults (SelectionBreaks m u s)
 
   -- for a document: a fault for each definition that is not kept, for each operation without a name if there is another operation, and
   -- for each selection that is left out of a set that is kept

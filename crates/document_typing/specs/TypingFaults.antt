@@ -57,21 +57,21 @@ pub data SelectionBreaks {P : Type 0} (m : Meanings) (t : List ℕ) (s : Selecti
   undefined_type_in_inline_fragment_type_condition : UndefinedTypeInInlineFragmentTypeConditionAt m t s fault → SelectionBreaks m t s fault
 
 -- the selection s is in a set on the type u: in these selections, on the type t, or in a set that is kept inside them, at any depth
-pub data StandsIn {P : Type 0} (m : Meanings) (u : List ℕ) (s : SelectionTree P) : List ℕ → SelectionTrees P → Type 0 where
-  first : (ss : SelectionTrees P) → StandsIn m u s u (selection_then s ss)
-  later : (t : List ℕ) (x : SelectionTree P) (ss : SelectionTrees P) → StandsIn m u s t ss → StandsIn m u s t (selection_then x ss)
+pub data IsInSelections {P : Type 0} (m : Meanings) (u : List ℕ) (s : SelectionTree P) : List ℕ → SelectionTrees P → Type 0 where
+  first : (ss : SelectionTrees P) → IsInSelections m u s u (selection_then s ss)
+  later : (t : List ℕ) (x : SelectionTree P) (ss : SelectionTrees P) → IsInSelections m u s t ss → IsInSelections m u s t (selection_then x ss)
   in_field : (t : List ℕ) (p : P) (h : FieldHead P) (ts ss : SelectionTrees P) (d : Definition)
-      → m.field t h.name.it ≡ Some d → may_select m (inner_type d) ts ≡ true → StandsIn m u s (inner_type d) ts
-      → StandsIn m u s t (selection_then (FieldTree p h ts) ss)
-  in_fragment : (t : List ℕ) (p : P) (ds : Directives P) (ts ss : SelectionTrees P) → StandsIn m u s t ts
-      → StandsIn m u s t (selection_then (InlineTree p None ds ts) ss)
+      → m.field t h.name.it ≡ Some d → may_select m (inner_type d) ts ≡ true → IsInSelections m u s (inner_type d) ts
+      → IsInSelections m u s t (selection_then (FieldTree p h ts) ss)
+  in_fragment : (t : List ℕ) (p : P) (ds : Directives P) (ts ss : SelectionTrees P) → IsInSelections m u s t ts
+      → IsInSelections m u s t (selection_then (InlineTree p None ds ts) ss)
   in_condition : (t : List ℕ) (p : P) (c : Text P) (ds : Directives P) (ts ss : SelectionTrees P)
-      → m.has_type c.it ≡ true → StandsIn m u s c.it ts
-      → StandsIn m u s t (selection_then (InlineTree p (Some c) ds ts) ss)
+      → m.has_type c.it ≡ true → IsInSelections m u s c.it ts
+      → IsInSelections m u s t (selection_then (InlineTree p (Some c) ds ts) ss)
 
 -- in these selections on the type t, or in a set that is kept inside them, a selection breaks a rule with this fault
 abbrev pub SetFails : {P : Type 0} → Meanings → List ℕ → SelectionTrees P → TypingFault P → Type 0
-SetFails {P} m t ts fault = (u : List ℕ) × ((s : SelectionTree P) × (StandsIn m u s t ts × SelectionBreaks m u s fault))
+SetFails {P} m t ts fault = (u : List ℕ) × ((s : SelectionTree P) × (IsInSelections m u s t ts × SelectionBreaks m u s fault))
 
 -- these are the faults of a set with these selections on the type t: each way in which a selection breaks a rule, and nothing else
 abbrev pub AreSetFaults : {P : Type 0} → Meanings → List ℕ → SelectionTrees P → List (TypingFault P) → Type 0

@@ -18,7 +18,4 @@ mod use_copies;
 
 pub use diagnostic_data::DiagnosticData;
 pub use fault::{Fault, MOST_TOLD, is_full, tell};
-pub use schema_coordinates::{
-    DirectiveArgumentCoordinate, DirectiveCoordinate, FieldArgumentCoordinate, SchemaCoordinate,
-    TypeAttributeCoordinate,
-};
+pub use schema_coordinates::TypeAttributeCoordinate;

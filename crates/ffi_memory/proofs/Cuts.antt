@@ -32,9 +32,9 @@ module _ (bytes ends : List ℕ) where
         (text, (texts, (heads, (is.0, tails))))
 
     -- one more text is cut
-    pub going_on : (text behind : List ℕ) (end : ℕ) (later : List ℕ) → rest ≡ text ++ behind → left ≡ end ∷ later → end ≡ start + length text
-        → Going end behind later (done ++ text ∷ [])
-    going_on text behind end later parts first at = record {
+    pub going_on : (text following : List ℕ) (end : ℕ) (later : List ℕ) → rest ≡ text ++ following → left ≡ end ∷ later → end ≡ start + length text
+        → Going end following later (done ++ text ∷ [])
+    going_on text following end later parts first at = record {
       whole = λ texts is. subst (IsCut bytes ends) (sym (append_assoc done (text ∷ []) texts)) (going.whole (text ∷ texts) (
         parts ∙ ap (λ b. text ++ b) is.0,
         first ∙ ap (λ l. end ∷ l) is.1 ∙ ap (λ e. e ∷ ends_of e texts) at,
@@ -43,8 +43,8 @@ module _ (bytes ends : List ℕ) where
           let others = going.there texts is in
           let (t, (ts, (ends_there, (cut, ends_later)))) = first_text end later first others.0 others.1 in
           let same : length text ≡ length t = omega (arith, at, ends_there) in
-          let whole : text ++ behind ≡ t ++ concat ts = sym parts ∙ cut in
-          let apart : behind ≡ concat ts = sym (drop-append_seam text behind) ∙ ap (drop (length text)) whole ∙ ap (λ n. drop n (t ++ concat ts)) same ∙ drop-append_seam t (concat ts) in
+          let whole : text ++ following ≡ t ++ concat ts = sym parts ∙ cut in
+          let apart : following ≡ concat ts = sym (drop-append_seam text following) ∙ ap (drop (length text)) whole ∙ ap (λ n. drop n (t ++ concat ts)) same ∙ drop-append_seam t (concat ts) in
           (ts, (apart, subst (λ e. later ≡ ends_of e ts) (sym ends_there) ends_later));
     }
 
@@ -56,12 +56,12 @@ module _ (bytes ends : List ℕ) where
         omega (arith, before, ends_there)
 
     -- an end past the bytes
-    pub none_behind : (end : ℕ) (later : List ℕ) → left ≡ end ∷ later → length rest < end - start → (texts : List (List ℕ)) → IsCut bytes ends texts → ⊥
-    none_behind end later first behind texts is =
+    pub none_following : (end : ℕ) (later : List ℕ) → left ≡ end ∷ later → length rest < end - start → (texts : List (List ℕ)) → IsCut bytes ends texts → ⊥
+    none_following end later first following texts is =
         let others = going.there texts is in
         let (t, (ts, (ends_there, (cut, ends_later)))) = first_text end later first others.0 others.1 in
         let long : length rest ≡ length t + length (concat ts) = ap length cut ∙ length-append t (concat ts) in
-        omega (arith, behind, ends_there, long)
+        omega (arith, following, ends_there, long)
 
     -- bytes after the last end
     pub none_over : left ≡ [] → rest ≢ [] → (texts : List (List ℕ)) → IsCut bytes ends texts → ⊥
@@ -80,14 +80,14 @@ pub next_end : (ends : List ℕ) (i : ℕ) → i < length ends → drop i ends �
 next_end ends i inside = let e : suc i ≡ i + 1 = omega arith in subst (λ n. drop i ends ≡ get_or ends i 0 ∷ drop n ends) e (drop-cons ends i 0 inside)
 
 -- a text is pushed
-pub going_pushed : (bytes ends : List ℕ) (start : ℕ) (rest : List ℕ) (i : ℕ) (done new : List (Bor (List ℕ))) (text behind : Bor (List ℕ)) → i < length ends
-    → Going bytes ends start rest (drop i ends) (map (λ t. t.now) done) → rest ≡ text.now ++ behind.now → length text.now ≡ get_or ends i 0 - start → start ≤ get_or ends i 0
-    → new ≡ done ++ text ∷ [] → Going bytes ends (get_or ends i 0) behind.now (drop (i + 1) ends) (map (λ t. t.now) new)
-going_pushed bytes ends start rest i done new text behind inside going parts long after pushed =
-    let on : Going bytes ends (get_or ends i 0) behind.now (drop (i + 1) ends) (map (λ t. t.now) done ++ text.now ∷ []) =
-    going_on bytes ends start rest (drop i ends) (map (λ t. t.now) done) going text.now behind.now (get_or ends i 0) (drop (i + 1) ends) parts (next_end ends i inside) (omega (arith, long, after)) in
+pub going_pushed : (bytes ends : List ℕ) (start : ℕ) (rest : List ℕ) (i : ℕ) (done new : List (Bor (List ℕ))) (text following : Bor (List ℕ)) → i < length ends
+    → Going bytes ends start rest (drop i ends) (map (λ t. t.now) done) → rest ≡ text.now ++ following.now → length text.now ≡ get_or ends i 0 - start → start ≤ get_or ends i 0
+    → new ≡ done ++ text ∷ [] → Going bytes ends (get_or ends i 0) following.now (drop (i + 1) ends) (map (λ t. t.now) new)
+going_pushed bytes ends start rest i done new text following inside going parts long after pushed =
+    let on : Going bytes ends (get_or ends i 0) following.now (drop (i + 1) ends) (map (λ t. t.now) done ++ text.now ∷ []) =
+    going_on bytes ends start rest (drop i ends) (map (λ t. t.now) done) going text.now following.now (get_or ends i 0) (drop (i + 1) ends) parts (next_end ends i inside) (omega (arith, long, after)) in
     let same : map (λ (t : Bor (List ℕ)). t.now) new ≡ map (λ t. t.now) done ++ text.now ∷ [] = ap (map (λ (t : Bor (List ℕ)). t.now)) pushed ∙ map-append (λ (t : Bor (List ℕ)). t.now) done (text ∷ []) in
-    subst (Going bytes ends (get_or ends i 0) behind.now (drop (i + 1) ends)) (sym same) on
+    subst (Going bytes ends (get_or ends i 0) following.now (drop (i + 1) ends)) (sym same) on
 
 -- no end is next
 pub none_after : (ends : List ℕ) (i : ℕ) → length ends ≤ i → drop i ends ≡ []

@@ -59,7 +59,7 @@ pub fn texts_at<'a>(
 }
 
 /// The bytes between each end and the one before.
-#[tactic(auto, using(crate::proofs::Cuts::none_before, crate::proofs::Cuts::none_behind, crate::proofs::Cuts::none_over, crate::proofs::Cuts::cut_whole))]
+#[tactic(auto, using(crate::proofs::Cuts::none_before, crate::proofs::Cuts::none_following, crate::proofs::Cuts::none_over, crate::proofs::Cuts::cut_whole))]
 fn cut<'a>(alloc: Global, bytes: &'a [u8], ends: &[usize]) -> Result<Vec<&'a [u8]>, TextsFault>
     ensures texts { IfOk result (λ texts. IsCut bytes.now ends.now (map (λ t. t.now) texts.items)) }
     ensures fault { result ≡ Err Ends → (texts : List (List ℕ)) → IsCut bytes.now ends.now texts → ⊥ }
@@ -76,9 +76,9 @@ fn cut<'a>(alloc: Global, bytes: &'a [u8], ends: &[usize]) -> Result<Vec<&'a [u8
         if rest.len() < end - start {
             return Err(TextsFault::Ends);
         }
-        let (text, behind) = rest.split_at(end - start);
+        let (text, following) = rest.split_at(end - start);
         texts.push(text)?;
-        rest = behind;
+        rest = following;
         start = end;
     }
     if !rest.is_empty() {

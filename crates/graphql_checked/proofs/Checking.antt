@@ -17,7 +17,7 @@ use Rattle.graphql_validation.specs.LastingRules.{LastingFails}
 use Rattle.graphql_validation.proofs.Reasons.{lasting_is_fault, cycle_is_fault}
 use Rattle.graphql_faults.specs.DetailsTree.{of_typing}
 use Rattle.graphql_faults.specs.DetailsView.{diagnostics_of}
-use Rattle.graphql_validation.specs.TellsDocument.{FailsBesides, SomeFails}
+use Rattle.graphql_validation.specs.TellsDocument.{FailsOtherwise, SomeFails}
 use Rattle.book_validity.specs.in_verdict_definitions.Texts.{SourceText, Tree}
 use Rattle.book_validity.specs.in_verdict_definitions.Meaning.{document_over}
 use Rattle.book_validity.specs.in_verdict_definitions.Judge.{IsDocumentCertain}
@@ -34,10 +34,10 @@ use Rattle.checker_calls.specs.declared.refusal.Refusal.TheVariants.{Faults, Mem
 use Rattle.checker_calls.proofs.Deciding.{one_tree, unread_not_read, is_read}
 
 -- what is told in full, in the words of the rules on documents
-besides : (schema : SchemaTree Place) (document : MeantDocument Place) (fault : PlacedDocumentFault) → RuleFailsBeside (places_in schema) (judged schema) document fault → FailsBesides schema document fault
-besides schema document (OfData fault) h = h
-besides schema document (OfDocument fault) h = h
-besides schema document (OfLimit place) h = h
+fails_otherwise : (schema : SchemaTree Place) (document : MeantDocument Place) (fault : PlacedDocumentFault) → RuleFailsBeside (places_in schema) (judged schema) document fault → FailsOtherwise schema document fault
+fails_otherwise schema document (OfData fault) h = h
+fails_otherwise schema document (OfDocument fault) h = h
+fails_otherwise schema document (OfLimit place) h = h
 
 -- a list of one is not empty
 some_one : (fault : AnyFault) (faults : List AnyFault) → faults ≡ fault ∷ [] → faults ≢ []
@@ -138,7 +138,7 @@ module _ (schema : CheckedSchemaValue) (text : SourceText) where
         full = λ within other reads fault fails. not_in_nil (of_typing fault) (typed.full fault (subst (λ t. TypingFailsOver schema.schema t fault) (same other (reads, within)) fails));
         rules = λ within other reads holds fault fails.
             let e : document_over schema.schema other ≡ document = ap (document_over schema.schema) (same other (reads, within)) ∙ sym typed.is in
-            h.full fault (besides schema.schema document fault (subst (λ d. RuleFailsBeside (places_in schema.schema) (judged schema.schema) d fault) e fails));
+            h.full fault (fails_otherwise schema.schema document fault (subst (λ d. RuleFailsBeside (places_in schema.schema) (judged schema.schema) d fault) e fails));
       }
       rules_refusal Memory h = tt
       rules_refusal Failed h = h

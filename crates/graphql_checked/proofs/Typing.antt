@@ -85,10 +85,10 @@ still_some [] more some none = some refl
 still_some (fault ∷ faults) more some none = let e : [] ≡ fault ∷ (faults ++ more) = sym none in absurd cc
 
 -- what fails beside merging fails
-besides_some : (schema : SchemaTree Place) (document : MeantDocument Place) (f : PlacedDocumentFault) → FailsBesideMerging schema document f → SomeFails schema document f
-besides_some schema document f (inl h) = inl h
-besides_some schema document f (inr (inl h)) = inr (inr (inl h))
-besides_some schema document f (inr (inr h)) = inr (inr (inr (inl h)))
+otherwise_some : (schema : SchemaTree Place) (document : MeantDocument Place) (f : PlacedDocumentFault) → FailsBesideMerging schema document f → SomeFails schema document f
+otherwise_some schema document f (inl h) = inl h
+otherwise_some schema document f (inr (inl h)) = inr (inr (inl h))
+otherwise_some schema document f (inr (inr h)) = inr (inr (inr (inl h)))
 
 -- some rule of typing is broken; after its faults come those of the breaches found whose rules stay broken
 pub refuses_typing : (schema : SchemaTree Place) (tree : Tree) (document : MeantDocument Place) (found faults : List AnyFault) → TypesDocument schema tree document found → found ≢ []
@@ -110,7 +110,7 @@ refuses_typing schema tree document found faults types some breaches is tells ri
       lasting = record {
         found = breaches;
         breaks = record {
-          right = λ f c. subst (λ d. SomeFails schema d f) types.is (besides_some schema document f (tells.right f c));
+          right = λ f c. subst (λ d. SomeFails schema d f) types.is (otherwise_some schema document f (tells.right f c));
           most = tells.most;
           full = elim tells.full [ inl full ↦ inl full | inr all ↦ inr (λ f fails. (filtered lasts breaches f (all f (back f fails))).0) ];
         };

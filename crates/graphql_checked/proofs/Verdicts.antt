@@ -7,7 +7,7 @@ use Rattle.schema_types.specs.SchemaTree.{SchemaTree}
 use Rattle.spec_document.specs.MeantTree.{MeantDocument}
 use Rattle.graphql_faults.specs.DetailsView.{diagnostics_of}
 use Rattle.book_validity.specs.in_verdict_definitions.Texts.{SourceText, Terms, document_number}
-use Rattle.book_validity.specs.in_verdict_definitions.Meaning.{schema_at_hand}
+use Rattle.book_validity.specs.in_verdict_definitions.Meaning.{document_schema}
 use Rattle.book_validity.specs.in_verdict_definitions.Judge.{IsDocumentAccepted, IsAccepted, AreSchemasCertain, IsDocumentCertain, IsCertain}
 use Rattle.book_validity.specs.in_verdict_definitions.Says.{AnyFault}
 use Rattle.book_validity.specs.in_verdict_definitions.Answer.{RefusesDocument, Refuses}
@@ -71,19 +71,19 @@ module _ (terms : Terms) (texts : List SourceText) (text : SourceText) (schema :
   OverSchema says = says schema.schema schema.nesting schema.number
 
   abbrev OverTexts : (SchemaTree Place → ℕ → ℕ → Type 0) → Type 0
-  OverTexts says = says (schema_at_hand terms is.accepted.judged.trees) terms.nesting (document_number terms texts)
+  OverTexts says = says (document_schema terms is.accepted.judged.trees) terms.nesting (document_number terms texts)
 
   over_texts : (says : SchemaTree Place → ℕ → ℕ → Type 0) → OverSchema says → OverTexts says
   over_texts says h =
-      subst (λ n. says (schema_at_hand terms is.accepted.judged.trees) terms.nesting n) is.number
-      (subst (λ n. says (schema_at_hand terms is.accepted.judged.trees) n schema.number) is.nesting
-      (subst (λ s. says s schema.nesting schema.number) is.at_hand h))
+      subst (λ n. says (document_schema terms is.accepted.judged.trees) terms.nesting n) is.number
+      (subst (λ n. says (document_schema terms is.accepted.judged.trees) n schema.number) is.nesting
+      (subst (λ s. says s schema.nesting schema.number) is.for_documents h))
 
   over_schema : (says : SchemaTree Place → ℕ → ℕ → Type 0) → OverTexts says → OverSchema says
   over_schema says h =
-      subst (λ s. says s schema.nesting schema.number) (sym is.at_hand)
-      (subst (λ n. says (schema_at_hand terms is.accepted.judged.trees) n schema.number) (sym is.nesting)
-      (subst (λ n. says (schema_at_hand terms is.accepted.judged.trees) terms.nesting n) (sym is.number) h))
+      subst (λ s. says s schema.nesting schema.number) (sym is.for_documents)
+      (subst (λ n. says (document_schema terms is.accepted.judged.trees) n schema.number) (sym is.nesting)
+      (subst (λ n. says (document_schema terms is.accepted.judged.trees) terms.nesting n) (sym is.number) h))
 
   -- the pair is accepted
   pub accepted_pair : (document : MeantDocument Place) → IsCheckedDocumentOf schema text document → IsAccepted terms texts text
@@ -105,7 +105,7 @@ module _ (terms : Terms) (texts : List SourceText) (text : SourceText) (schema :
   certain_document certain =
       let same : certain.accepted.schema.judged.trees ≡ is.accepted.judged.trees = one_list terms.first_text texts certain.accepted.schema.judged.trees is.accepted.judged.trees certain.accepted.schema.judged.read is.accepted.judged.read in
       over_schema (λ s nesting number. IsDocumentCertain s nesting number text)
-      (subst (λ trees. IsDocumentCertain (schema_at_hand terms trees) terms.nesting (document_number terms texts) text) same (certain.accepted.over, certain.nests))
+      (subst (λ trees. IsDocumentCertain (document_schema terms trees) terms.nesting (document_number terms texts) text) same (certain.accepted.over, certain.nests))
 
   -- the verdict of a document's refusal
   pub document_verdict : (refusal : Refusal) → RefusalOfDocument schema text refusal → IfOk (refusal_verdict refusal) (IsVerdict terms texts text)

@@ -16,7 +16,7 @@ use Rattle.graphql_validation.specs.LastingRules.{LastingFails}
 use Rattle.spec_document.specs.Unplaced.{unplaced_document}
 use Rattle.graphql_faults.specs.DetailsTree.{of_typing, of_document}
 use Rattle.graphql_faults.specs.DetailsView.{diagnostics_of}
-use Rattle.graphql_validation.specs.TellsDocument.{IsTypedUnder, FailsBesides, SomeFails}
+use Rattle.graphql_validation.specs.TellsDocument.{IsTypedUnder, FailsOtherwise, SomeFails}
 use Rattle.book_validity.specs.in_verdict_definitions.Texts.{SourceText, Tree, ReadsText, IsWithin}
 use Rattle.book_validity.specs.in_verdict_definitions.Meaning.{document_over}
 use Rattle.book_validity.specs.in_verdict_definitions.Says.{AnyFault, TypingFailsOver}
@@ -71,7 +71,7 @@ RefusalOfTyping schema tree Failed = ⊥
 pub record RefusesRules (schema : SchemaTree Place) (document : MeantDocument Place) (faults : List AnyFault) : Type 0 where
   pub some : faults ≢ []
   pub right : (fault : AnyFault) → Contains faults fault → (f : PlacedDocumentFault) × ((fault ≡ of_document f) × SomeFails schema document f)
-  pub full : (f : PlacedDocumentFault) → FailsBesides schema document f → IsToldUnlessFull faults (of_document f)
+  pub full : (f : PlacedDocumentFault) → FailsOtherwise schema document f → IsToldUnlessFull faults (of_document f)
   pub lasting : (f : PlacedDocumentFault) → LastingFails schema document f → IsToldUnlessFull faults (of_document f)
   pub bounds : IsValidDocument schema document → WithinBounds (unplaced_document document) → ⊥
 

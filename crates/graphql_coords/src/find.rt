@@ -1,4 +1,6 @@
 //! How to find what a coordinate names.
+//!
+//! An error borrows the coordinate and the schema: the borrow checker covers no `?` on it, so a match passes it on, here and in `lookup.rt`.
 ghost use Rattle.std.specs.Prelude.{◌≡◌};
 ghost use Rattle.graphql_names.specs.Placed.{node_tree};
 ghost use Rattle.tree_directives.specs.DirectiveTree.{input_value_tree, directive_definition_tree};

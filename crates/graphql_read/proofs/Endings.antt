@@ -23,13 +23,13 @@ pub same_piece : (p q : Piece) → Some p ≡ Some q → p ≡ q
 same_piece p q e = cc
 
 -- the pieces of a text do not both reach its end and stop before
-never_both : (ps qs : List Piece) (text behind : List ℕ) → ArePieces ps text behind → ArePieces qs text [] → NothingBegins behind → ⊥
-never_both [] [] text behind a b none = none.some (sym a ∙ b)
-never_both [] (q ∷ qs) text behind a b none = let e : Some q ≡ None = sym b.0 ∙ ap piece_at a ∙ none.no_piece in absurd cc
-never_both (p ∷ ps) [] text behind a b none = no_piece_of_none text p b a.0
-never_both (p ∷ ps) (q ∷ qs) text behind a b none =
+never_both : (ps qs : List Piece) (text following : List ℕ) → ArePieces ps text following → ArePieces qs text [] → NothingBegins following → ⊥
+never_both [] [] text following a b none = none.some (sym a ∙ b)
+never_both [] (q ∷ qs) text following a b none = let e : Some q ≡ None = sym b.0 ∙ ap piece_at a ∙ none.no_piece in absurd cc
+never_both (p ∷ ps) [] text following a b none = no_piece_of_none text p b a.0
+never_both (p ∷ ps) (q ∷ qs) text following a b none =
     let same : p ≡ q = same_piece p q (sym a.0 ∙ b.0) in
-    never_both ps qs (drop p.length text) behind a.1 (subst (λ (r : Piece). ArePieces qs (drop r.length text) []) (sym same) b.1) none
+    never_both ps qs (drop p.length text) following a.1 (subst (λ (r : Piece). ArePieces qs (drop r.length text) []) (sym same) b.1) none
 
 -- a text that is all tokens has these alone, and ends with the text
 pub ends_whole : (text : List ℕ) (ahead : List Token) (ending : Ending) (tokens : List Token) → EndsAs text ahead ending → Lex text tokens → (at : ℕ) × (ending ≡ Ended at) × (tokens ≡ ahead)

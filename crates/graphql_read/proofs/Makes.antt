@@ -31,8 +31,8 @@ among [] text at = tt
 among (p ∷ ps) text at = with_one p.kind (take p.length text) at (tokens_among ps (drop p.length text) (at + p.length)) (among ps (drop p.length text) (at + p.length))
 
 -- the tokens of a text, or of its front
-pub are_terminals : (text : List ℕ) (tokens : List Token) (behind : List ℕ) → LexesFront text tokens behind → AreTerminals tokens
-are_terminals text tokens behind lexes = subst AreTerminals (sym lexes.found) (among lexes.pieces text 0)
+pub are_terminals : (text : List ℕ) (tokens : List Token) (following : List ℕ) → LexesFront text tokens following → AreTerminals tokens
+are_terminals text tokens following lexes = subst AreTerminals (sym lexes.found) (among lexes.pieces text 0)
 
 -- ---- rules
 

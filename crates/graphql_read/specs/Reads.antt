@@ -15,8 +15,8 @@ pub record HasTree {A : Type 0} (symbol : Symbol A) (text : List ℕ) (tree : A)
 -- A prefix of the text consists of these tokens, and their brackets nest deeper than the limit.
 pub record NestingBound (nesting : ℕ) (text : List ℕ) : Type 0 where
   pub tokens : List Token
-  pub behind : List ℕ
-  pub lexed : LexesFront text tokens behind
+  pub following : List ℕ
+  pub lexed : LexesFront text tokens following
   pub above : nesting < depth tokens
 
 -- The text has this tree, and the brackets of its tokens nest within the limit.

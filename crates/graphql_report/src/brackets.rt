@@ -50,10 +50,10 @@ pub(crate) fn brackets_of(alloc: Global, text: &str) -> Result<Brackets, AllocEr
     };
     let (mut indent, mut rest) = (0usize, text);
     for _ in 0..text.len() {
-        let Some((token, behind)) = first_token(rest) else {
+        let Some((token, following)) = first_token(rest) else {
             break;
         };
-        let end = text.len().saturating_sub(behind.len());
+        let end = text.len().saturating_sub(following.len());
         let own = own_indent(rest.get(..token.offset).unwrap_or(""));
         indent = own.unwrap_or(indent);
         match token.text {
@@ -77,7 +77,7 @@ pub(crate) fn brackets_of(alloc: Global, text: &str) -> Result<Brackets, AllocEr
             }
             _ => {}
         }
-        rest = behind;
+        rest = following;
     }
     found.open = match open.last() {
         Some((place, _)) => Some(*place),

@@ -280,8 +280,8 @@ fn is_beside_mark(sources: &[Source<'_>], place: Option<SourceSpan>) -> bool {
         .text()
         .split_at_checked(span.offset)
         .unwrap_or(("", ""));
-    let (_, behind) = rest.split_at_checked(span.length).unwrap_or(("", ""));
-    behind.starts_with('\u{feff}') || head.len() > 3 && head.ends_with('\u{feff}')
+    let (_, following) = rest.split_at_checked(span.length).unwrap_or(("", ""));
+    following.starts_with('\u{feff}') || head.len() > 3 && head.ends_with('\u{feff}')
 }
 
 /// Words for what is in none of these texts of a schema.

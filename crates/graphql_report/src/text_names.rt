@@ -72,7 +72,7 @@ pub(crate) fn push_names<'a>(
         is_in_braces: false,
     };
     for _ in 0..text.len() {
-        let Some((token, behind)) = first_token(rest) else {
+        let Some((token, following)) = first_token(rest) else {
             break;
         };
         let name = token.text;
@@ -88,13 +88,13 @@ pub(crate) fn push_names<'a>(
                 file,
                 start: text
                     .len()
-                    .saturating_sub(behind.len().saturating_add(name.len())),
+                    .saturating_sub(following.len().saturating_add(name.len())),
             })?;
             owner = next;
         }
         earlier = before;
         before = name;
-        rest = behind;
+        rest = following;
     }
     Ok(())
 }

@@ -1,15 +1,20 @@
-//! Documents as lines of JSON.
+//! Documents as lines of JSON, and other schemas between them.
 
-use crate::{entries_of, faults_of, warnings_of};
-use graphql_checked::{CheckedSchema, Layout};
+use crate::{entries_of, faults_of, report_of_schema, schema_of, warnings_of};
+use graphql_checked::{CheckedSchema, Layout, Refusal};
 use graphql_report::Report;
 use report_cli::{
-    Asked, Request, Stop, Tally, Telling, answer_accepted, answer_refused, answer_wrong,
-    read_request,
+    Asked, Request, SchemaRequest, Settings, Stop, Tally, Telling, Why, answer_accepted,
+    answer_refused, answer_schema_accepted, answer_schema_refused, answer_wrong, lines_of,
+    read_request, schema_paths, sources_of,
 };
-use std::io::{BufRead, BufReader};
+use std::io::{BufRead, BufReader, Lines, Stdin};
 
-/// Answers each line of standard input but blank ones by a line on standard output, in order.
+/// The lines of standard input.
+type InputLines = Lines<BufReader<Stdin>>;
+
+/// Answers each line of standard input but blank ones by a line on standard output, in order: over this schema, or over the last that
+/// a line before it opened.
 pub(crate) fn check_batch(
     rt: &HostRuntime,
     telling: &Telling<'_>,
@@ -19,20 +24,125 @@ pub(crate) fn check_batch(
     let Ok(reader) = BufReader::new(rt.alloc(), rt.stdin()) else {
         return Err(Stop::Memory);
     };
+    let mut lines = reader.lines(rt.alloc());
     let mut number = 0usize;
-    for line in reader.lines(rt.alloc()) {
-        number = number.saturating_add(1);
-        let asked = read_request(rt, line)?;
-        match &asked {
-            Asked::Document(request) => answer(rt, telling, schema, request, tally)?,
-            Asked::Blank => {}
-            Asked::Wrong { id, why } => answer_wrong(rt, number, id.as_deref(), *why, tally)?,
-        }
+    let next = answer_lines(rt, telling, Some(schema), &mut lines, &mut number, tally)?;
+    answer_others(rt, telling.settings, next, &mut lines, &mut number, tally)
+}
+
+/// Opens this schema, if there is one, and each that is asked for later, and answers the lines after it.
+fn answer_others(
+    rt: &HostRuntime,
+    settings: &Settings,
+    first: Option<SchemaRequest>,
+    lines: &mut InputLines,
+    number: &mut usize,
+    tally: &mut Tally,
+) -> Result<(), Stop> {
+    let mut next = first;
+    // each round reads a line, or is the last
+    for _ in 0..u64::MAX {
+        let Some(request) = next else {
+            return Ok(());
+        };
+        next = answer_over(rt, settings, &request, lines, number, tally)?;
     }
     Ok(())
 }
 
-/// Answers a line that asks for a document.
+/// Opens the schema, answers the line that asks for it, and the lines after it, up to one that asks for another: that one, if there is
+/// one.
+fn answer_over(
+    rt: &HostRuntime,
+    settings: &Settings,
+    request: &SchemaRequest,
+    lines: &mut InputLines,
+    number: &mut usize,
+    tally: &mut Tally,
+) -> Result<Option<SchemaRequest>, Stop> {
+    let paths = schema_paths(rt.alloc(), request.texts.len())?;
+    let text_lines = lines_of(rt.alloc(), &request.texts)?;
+    let sources = sources_of(rt.alloc(), &paths, &text_lines)?;
+    let telling = Telling {
+        settings,
+        schemas: &sources,
+    };
+    // The prover wants few owned values in a function, and none in that with the loop.
+    answer_opened(rt, &telling, request, lines, number, tally)
+}
+
+/// Opens the schema of this request, whose texts are those of `telling`, and answers as [`answer_over`] does.
+fn answer_opened(
+    rt: &HostRuntime,
+    telling: &Telling<'_>,
+    request: &SchemaRequest,
+    lines: &mut InputLines,
+    number: &mut usize,
+    tally: &mut Tally,
+) -> Result<Option<SchemaRequest>, Stop> {
+    match schema_of(rt.alloc(), &request.texts, telling.settings.nesting) {
+        Ok(schema) => {
+            answer_schema_accepted(rt, &request.id)?;
+            answer_lines(rt, telling, Some(&schema), lines, number, tally)
+        }
+        Err(refusal) => {
+            answer_refusal(rt, telling, &request.id, &refusal, tally)?;
+            answer_lines(rt, telling, None, lines, number, tally)
+        }
+    }
+}
+
+/// Answers that the schema is refused, and why.
+fn answer_refusal(
+    rt: &HostRuntime,
+    telling: &Telling<'_>,
+    id: &str,
+    refusal: &Refusal,
+    tally: &mut Tally,
+) -> Result<(), Stop> {
+    let report = report_of_schema(rt.alloc(), telling, refusal)?;
+    answer_schema_refused(rt, telling.settings, id, report.entries(), tally)
+}
+
+/// Answers the lines, up to one that asks for a schema: that one, if there is one. No schema is open where there is none.
+fn answer_lines(
+    rt: &HostRuntime,
+    telling: &Telling<'_>,
+    schema: Option<&CheckedSchema>,
+    lines: &mut InputLines,
+    number: &mut usize,
+    tally: &mut Tally,
+) -> Result<Option<SchemaRequest>, Stop> {
+    for line in lines {
+        *number = number.saturating_add(1);
+        match read_request(rt, line)? {
+            Asked::Schema(request) => return Ok(Some(request)),
+            asked => answer_line(rt, telling, schema, &asked, *number, tally)?,
+        }
+    }
+    Ok(None)
+}
+
+/// Answers the line of this number, which asks for this, unless it is blank, or asks for a schema.
+fn answer_line(
+    rt: &HostRuntime,
+    telling: &Telling<'_>,
+    schema: Option<&CheckedSchema>,
+    asked: &Asked,
+    number: usize,
+    tally: &mut Tally,
+) -> Result<(), Stop> {
+    match asked {
+        Asked::Document(request) => match schema {
+            Some(schema) => answer(rt, telling, schema, request, tally),
+            None => answer_wrong(rt, number, Some(&request.id), Why::NoSchema, tally),
+        },
+        Asked::Wrong { id, why } => answer_wrong(rt, number, id.as_deref(), *why, tally),
+        Asked::Blank | Asked::Schema(_) => Ok(()),
+    }
+}
+
+/// Answers a line that asks for a document, over the schema that is open.
 fn answer(
     rt: &HostRuntime,
     telling: &Telling<'_>,

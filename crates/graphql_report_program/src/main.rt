@@ -2,11 +2,11 @@
 //!
 //! `graphql-report [--format text|short|json|github] [--color auto|always|never] [--warn] [--deny warnings] [--nesting N]
 //! [--max-faults N] --schema FILE [--schema FILE].. [--quiet] [DOCUMENT..]` checks the schema once, and then each document by
-//! itself; `-` is standard input. With `--batch` documents come from standard input, a JSON object a line. With `--warn` uses of
-//! what is deprecated are told of each document that is accepted.
+//! itself; `-` is standard input. With `--batch` documents come from standard input, a JSON object a line, and other schemas between
+//! them. With `--warn` uses of what is deprecated are told of each document that is accepted.
 //!
-//! Begin with `check`: `schema_of`, `check_document`, `warnings_of` and `answer` are the calls of the library. What it takes, prints
-//! and counts is in `report_cli`.
+//! Begin with `check`: `schema_of`, `report_of_schema`, `check_document`, `warnings_of` and `answer` are the calls of the library. What
+//! it takes, prints and counts is in `report_cli`.
 #![tactic(auto)]
 
 mod batch;
@@ -39,19 +39,29 @@ fn faults_of(refusal: &Refusal) -> Result<&DiagnosticList, Stop> {
     }
 }
 
-/// Tells why the schema is refused, what has no place under the path of its first text.
+/// Why the schema is refused, what has no place under the path of its first text.
+fn report_of_schema(
+    alloc: Global,
+    telling: &Telling<'_>,
+    refusal: &Refusal,
+) -> Result<Report, Stop> {
+    let faults = faults_of(refusal)?;
+    let path = match telling.schemas.first() {
+        Some(source) => source.path,
+        None => "schema",
+    };
+    let report = Report::new(alloc, faults, telling.schemas, None, path)?;
+    Ok(report)
+}
+
+/// Tells why the schema is refused.
 fn tell_schema(
     rt: &HostRuntime,
     telling: &Telling<'_>,
     refusal: &Refusal,
     tally: &mut Tally,
 ) -> Result<(), Stop> {
-    let faults = faults_of(refusal)?;
-    let path = match telling.schemas.first() {
-        Some(source) => source.path,
-        None => "schema",
-    };
-    let report = Report::new(rt.alloc(), faults, telling.schemas, None, path)?;
+    let report = report_of_schema(rt.alloc(), telling, refusal)?;
     tally.add_schema();
     telling.tell(rt, None, Severity::Error, report.entries(), tally)
 }

@@ -22,8 +22,8 @@ told_as : {A B : Judged → SchemaFault → Type 0} → ((j : Judged) (g : Schem
 told_as into s f t = (t.0, (into (judged s) t.0 t.1.0, t.1.1))
 
 -- one more check after those that began with nothing told
-behind : (all added now next : List PlacedFault) → now ≡ [] ⊕ all → next ≡ now ⊕ added → next ≡ [] ⊕ (all ++ added)
-behind all added now next so_far step = step ∙ ap (λ l. l ⊕ added) so_far ∙ room_both [] all added
+following : (all added now next : List PlacedFault) → now ≡ [] ⊕ all → next ≡ now ⊕ added → next ≡ [] ⊕ (all ++ added)
+following all added now next so_far step = step ∙ ap (λ l. l ⊕ added) so_far ∙ room_both [] all added
 
 -- what each check adds to what the one before it left
 module _ (s : SchemaTree Place) (none types interfaces cycles uses : List PlacedFault) (is_none : none ≡ [])
@@ -39,9 +39,9 @@ module _ (s : SchemaTree Place) (none types interfaces cycles uses : List Placed
   pub first_told : uses ≡ take most_told all_told
   first_told =
       let of_types : types ≡ [] ⊕ types_added.0 = types_added.1.0 ∙ ap (λ l. l ⊕ types_added.0) is_none in
-      let of_interfaces = behind types_added.0 interfaces_added.0 types interfaces of_types interfaces_added.1.0 in
-      let of_cycles = behind (types_added.0 ++ interfaces_added.0) by_cycles.added interfaces cycles of_interfaces by_cycles.is in
-      behind ((types_added.0 ++ interfaces_added.0) ++ by_cycles.added) uses_added.0 cycles uses of_cycles uses_added.1.0 ∙ room_first all_told
+      let of_interfaces = following types_added.0 interfaces_added.0 types interfaces of_types interfaces_added.1.0 in
+      let of_cycles = following (types_added.0 ++ interfaces_added.0) by_cycles.added interfaces cycles of_interfaces by_cycles.is in
+      following ((types_added.0 ++ interfaces_added.0) ++ by_cycles.added) uses_added.0 cycles uses of_cycles uses_added.1.0 ∙ room_first all_told
 
   -- the list of each check
   in_types : (f : PlacedFault) → Contains types_added.0 f → Contains all_told f

@@ -76,13 +76,13 @@ module _ (d : MeantDocument Place) where
 
     pub tells_data : (old new : List PlacedFault) → AddsUnlessFull [] old (λ f. AtOperation d (λ o. Beside o f)) (HasAll (λ f. AtOperation d (λ o. Beside o f)))
         → (IsFull old → new ≡ old) → ((IsFull old → ⊥) → FragmentsTold d old new) → DataTold d All Beside new
-    tells_data old new told same behind = by (cases_lt (length old) most_told)
+    tells_data old new told same following = by (cases_lt (length old) most_told)
       where
         by : (length old < most_told) ⊎ (most_told ≤ length old) → DataTold d All Beside new
         by (inl room) =
             let not_full : IsFull old → ⊥ = λ full. omega (arith, room, full) in
             elim told.1.1.1 [
               | inl full ↦ absurd (not_full full)
-              | inr has ↦ both old new told.0 told.1.0 told.1.1.0 has (behind not_full)
+              | inr has ↦ both old new told.0 told.1.0 told.1.1.0 has (following not_full)
             ]
         by (inr full) = subst (DataTold d All Beside) (sym (same full)) (alone old told full)

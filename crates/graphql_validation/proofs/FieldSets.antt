@@ -19,7 +19,7 @@ use Rattle.rule_fragments.specs.Used.{AreUnderOwnNames}
 use Rattle.rule_fragments.specs.Nested.{NestsTooDeep}
 use Rattle.rule_fragments.proofs.UnlessFull.{first_tells, tells_none}
 use Rattle.rule_merging.specs.in_faults.DetailsTree.{of_document}
-use Rattle.rule_merging.proofs.Behind.{nothing_told, told_nothing}
+use Rattle.rule_merging.proofs.After.{nothing_told, told_nothing}
 use Rattle.rule_selections.proofs.Typing.{field_set_reaches_typed}
 use Rattle.rule_selections.specs.in_typing.Meanings.{meanings}
 use Rattle.schema_types.specs.Plain.{plain}

@@ -11,7 +11,7 @@ use Rattle.rule_definitions.proofs.Room.{room_first, room_silent}
 use Rattle.rule_document_definitions.specs.DocumentFaults.{Broken, OfData, OfDocument, OfLimit}
 use Rattle.rule_document_definitions.specs.PlacedDocumentFaults.{PlacedDocumentFault}
 use Rattle.rule_merging.specs.in_faults.DetailsTree.{of_document}
-use Rattle.rule_merging.proofs.Behind.{nothing_told}
+use Rattle.rule_merging.proofs.After.{nothing_told}
 use Rattle.rule_fragments.specs.UnlessFull.{IsFull}
 use Rattle.rule_fragments.proofs.UnlessFull.{first_full}
 use Rattle.graphql_validation.specs.Lasts.{fault_lasts, broken_lasts, lasts}
@@ -32,8 +32,8 @@ none_told old new all is same = none_first all (nothing_told old new (take most_
 module _ (faults : List PlacedFault) (breaches : List (Broken Place)) (is_passed : Bool) where
   pub full_faults : IsFull faults → IsFull (all_told faults breaches is_passed)
   full_faults full =
-      let behind = map OfDocument breaches ++ bound_told is_passed in
-      let long = length-append (map OfData faults) behind in
+      let following = map OfDocument breaches ++ bound_told is_passed in
+      let long = length-append (map OfData faults) following in
       let same = length-map {B = PlacedDocumentFault} faults OfData in
       omega (arith, full, long, same)
 

@@ -110,15 +110,15 @@ module _ (s : Judged) (d : MeantDocument Place) (own : Telling) (given kept : Li
 
   -- the first faults of it, after another list
   module _ (old new : Telling) (is : new ≡ old ++ take most_told (map details_at kept)) where
-    behind : new ≡ old ++ map of_document (take most_told merging_kept.0)
-    behind = is ∙ ap (λ l. old ++ l) (ap (take most_told) merging_kept.1.0 ∙ take-map of_document most_told merging_kept.0)
+    following : new ≡ old ++ map of_document (take most_told merging_kept.0)
+    following = is ∙ ap (λ l. old ++ l) (ap (take most_told) merging_kept.1.0 ∙ take-map of_document most_told merging_kept.0)
 
     pub merging_first : (all : List PlacedDocumentFault) × ((new ≡ old ++ map of_document (take most_told all)) × (EachOnce all × ((f : PlacedDocumentFault) → Contains all f → Fails f)))
-    merging_first = (merging_kept.0, (behind, merging_kept.1.1))
+    merging_first = (merging_kept.0, (following, merging_kept.1.1))
 
     -- where the other list stays, merging tells nothing
     pub merging_silent : new ≡ old → own ≡ []
     merging_silent still =
-        let none : map details_at kept ≡ [] = merging_kept.1.0 ∙ ap (map of_document) (none_told old new merging_kept.0 behind still) in
+        let none : map details_at kept ≡ [] = merging_kept.1.0 ∙ ap (map of_document) (none_told old new merging_kept.0 following still) in
         let nothing = kept_none (map told_at given) (map told_at kept) keeps (seen_of kept ∙ ap (map placed_details) none) in
         none_mapped placed_details own (ap (map placed_details) (sym same) ∙ sym (seen_of given) ∙ nothing)

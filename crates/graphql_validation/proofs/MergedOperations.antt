@@ -13,10 +13,10 @@ use Rattle.rule_document_definitions.specs.PlacedDocumentFaults.{PlacedDocumentF
 use Rattle.rule_merging.specs.in_faults.DetailsTree.{of_document}
 use Rattle.rule_merging.specs.Merged.{MergingTold, DocumentMergingTold}
 use Rattle.graphql_validation.specs.ValidationFaults.{Telling}
-use Rattle.rule_merging.proofs.Behind.{nothing_told, told_nothing}
+use Rattle.rule_merging.proofs.After.{nothing_told, told_nothing}
 
-told_behind : (old mid new : Telling) (a b : List PlacedDocumentFault) → mid ≡ old ++ map of_document a → new ≡ mid ++ map of_document b → new ≡ old ++ map of_document (a ++ b)
-told_behind old mid new a b e i =
+told_after : (old mid new : Telling) (a b : List PlacedDocumentFault) → mid ≡ old ++ map of_document a → new ≡ mid ++ map of_document b → new ≡ old ++ map of_document (a ++ b)
+told_after old mid new a b e i =
     i ∙ ap (λ l. l ++ map of_document b) e ∙ append_assoc old (map of_document a) (map of_document b) ∙ ap (λ l. old ++ l) (sym (map-append of_document a b))
 
 front_none : {A : Type 0} (a b : List A) → a ++ b ≡ [] → a ≡ []
@@ -31,7 +31,7 @@ module _ (s : Judged) (d : MeantDocument Place) where
 
   pub merging_more : (old mid new : Telling) (o : MeantOperation Place) → Contains (operations d) o → DocumentMergingTold s d old mid → MergingTold s d o mid new → DocumentMergingTold s d old new
   merging_more old mid new o among (a, (e, first)) (b, (i, next)) =
-      (a ++ b, (told_behind old mid new a b e i, λ f c. elim (Contains-append_cases a b f c) [ inl h ↦ first f h | inr h ↦ (o, (among, next f h)) ]))
+      (a ++ b, (told_after old mid new a b e i, λ f c. elim (Contains-append_cases a b f c) [ inl h ↦ first f h | inr h ↦ (o, (among, next f h)) ]))
 
   -- ---- what merges
 
@@ -46,7 +46,7 @@ module _ (s : Judged) (d : MeantDocument Place) where
       → DocumentMergingTold s d old mid → MergeSoFar os was old mid → MergingTold s d o mid new
       → (IsTrue was → new ≡ mid → FieldsMerge s d o) → (IsTrue is_clean ↔ (IsTrue was × (new ≡ mid))) → MergeSoFar all is_clean old new
   so_far_more old mid new os all o was is_clean is (a, (e, first)) before (b, (i, next)) merges clean same =
-      let none = nothing_told old new (a ++ b) (told_behind old mid new a b e i) same in
+      let none = nothing_told old new (a ++ b) (told_after old mid new a b e i) same in
       let kept = told_nothing old mid a e (front_none a b none) in
       let still : new ≡ mid = same ∙ sym kept in
       let were = before kept in (

@@ -26,7 +26,7 @@ use Rattle.rule_fragments.specs.in_reach.Reach.{IsReachOf, meant_fragments}
 use Rattle.rule_fragments.specs.in_reach.declared.lists.Reach.{Reach}
 use Rattle.rule_fragments.proofs.in_reach.OfDocuments.{ReachesFrom}
 use Rattle.rule_selections.specs.Typed.{ReachesTyped}
-use Rattle.rule_selections.specs.Settled.{Terms, StandInWith}
+use Rattle.rule_selections.specs.Settled.{Terms, MayReplaceWith}
 use Rattle.rule_selections.proofs.Instead.{reaches_typed}
 use Rattle.rule_selections.proofs.SameFaults.{same_names, same_variables, same_selections, same_undefined, same_targets, same_spreads}
 use Rattle.rule_variables.specs.Parts.{VariablesBreakAlone, VariablesBreakUnder}
@@ -52,7 +52,7 @@ pub reached_instead : {S : Type 0} (d : MeantDocument Place) (fragments : IndexM
 reached_instead d fragments o r x is h =
     subst (λ (x : Operation). ReachesFrom (typed_set_tree x.selection_set) fragments r) is h (instead_of d (meant_fragments fragments)) (InOperation (operation_name (operation_meant o))) refl
 
-module _ (s : SchemaTree Place) (d : MeantDocument Place) (instead : Entries (MeantFragment Place)) (o : MeantOperation Place) (in' : StandInWith s o.variables d.fragments instead) where
+module _ (s : SchemaTree Place) (d : MeantDocument Place) (instead : Entries (MeantFragment Place)) (o : MeantOperation Place) (in' : MayReplaceWith s o.variables d.fragments instead) where
   abbrev terms : Terms
   terms = record { schema = s; variables = in'.0 }
 

@@ -10,7 +10,7 @@ use Rattle.rule_document_definitions.specs.DocumentFaults.{Broken, OfData, OfDoc
 use Rattle.rule_document_definitions.specs.PlacedDocumentFaults.{PlacedDocumentFault}
 use Rattle.rule_definitions.proofs.Lists.{not_in_nil, only, Contains-first}
 use Rattle.rule_fragments.proofs.in_reach.Bridge.{from_map, to_map}
-use Rattle.rule_merging.proofs.Behind.{breaches_told}
+use Rattle.rule_merging.proofs.After.{breaches_told}
 use Rattle.graphql_validation.specs.Operations.{bound_told, all_told}
 use Rattle.graphql_validation.specs.ValidationFaults.{Telling}
 

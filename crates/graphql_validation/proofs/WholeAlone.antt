@@ -21,7 +21,7 @@ use Rattle.rule_fragments.proofs.UnlessFull.{first_tells, tells_none}
 use Rattle.rule_fragments.specs.Used.{IsUsed}
 use Rattle.rule_fragments.specs.Nested.{NestsTooDeep}
 use Rattle.rule_merging.specs.in_faults.DetailsTree.{of_document}
-use Rattle.rule_merging.proofs.Behind.{nothing_told, told_nothing}
+use Rattle.rule_merging.proofs.After.{nothing_told, told_nothing}
 use Rattle.graphql_validation.specs.Operations.{DataFails, TellsData, DataTold, AllAlone, OperationFailsAlone, all_told}
 use Rattle.graphql_validation.proofs.Telling.{data_in, broken_in, limit_in, told_cases, bound_is}
 use Rattle.graphql_validation.proofs.FirstTold.{parts_told}

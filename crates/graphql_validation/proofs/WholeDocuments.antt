@@ -28,13 +28,13 @@ use Rattle.rule_fragments.specs.UnlessFull.{HasAll}
 use Rattle.rule_selections.specs.in_typing.Meanings.{meanings}
 use Rattle.rule_merging.specs.Merged.{MergingFailsAt}
 use Rattle.rule_merging.specs.in_faults.DetailsTree.{of_document}
-use Rattle.rule_merging.proofs.Behind.{told_nothing}
+use Rattle.rule_merging.proofs.After.{told_nothing}
 use Rattle.graphql_validation.specs.Operations.{AreReachesTyped, DataFails, TellsData, AllUnder, OperationFails, all_told}
 use Rattle.graphql_validation.specs.OperationChecks.{TellsUnder}
 use Rattle.rule_fragments.specs.Documents.{SomeBreaks, BreachesTold}
 use Rattle.rule_fragments.proofs.UnlessFull.{of_first, first_tells, tells_none}
 use Rattle.graphql_validation.specs.ValidationFaults.{AnswersFragment, Telling}
-use Rattle.graphql_validation.specs.TellsDocument.{IsTypedUnder, FailsBesides, FailsBesideMerging, FailsInMerging, SomeFails, TellsDocument, DocumentTold}
+use Rattle.graphql_validation.specs.TellsDocument.{IsTypedUnder, FailsOtherwise, FailsBesideMerging, FailsInMerging, SomeFails, TellsDocument, DocumentTold}
 use Rattle.graphql_validation.proofs.FirstTold.{parts_told}
 use Rattle.graphql_validation.proofs.Ordered.{beside_under}
 use Rattle.graphql_faults.specs.Once.{KeepsOnce}
@@ -57,10 +57,10 @@ module _ (s : SchemaTree Place) (d : MeantDocument Place) where
   -- ---- what is told
 
   -- what fails beside merging, and what fails in it, fails
-  besides_some : (f : PlacedDocumentFault) → FailsBesideMerging s d f → SomeFails s d f
-  besides_some f (inl h) = inl h
-  besides_some f (inr (inl h)) = inr (inr (inl h))
-  besides_some f (inr (inr h)) = inr (inr (inr (inl h)))
+  otherwise_some : (f : PlacedDocumentFault) → FailsBesideMerging s d f → SomeFails s d f
+  otherwise_some f (inl h) = inl h
+  otherwise_some f (inr (inl h)) = inr (inr (inl h))
+  otherwise_some f (inr (inr h)) = inr (inr (inr (inl h)))
 
   merging_some : (f : PlacedDocumentFault) → FailsInMerging s d f → SomeFails s d f
   merging_some f (inl h) = inr (inl h)
@@ -84,7 +84,7 @@ module _ (s : SchemaTree Place) (d : MeantDocument Place) where
     tells_document : (NestsTooDeep d → IsTrue is_passed) → TellsData d (λ o. OperationFails d o s) faults → HasAll (SomeBreaks d) breaches → TellsDocument s d (all_told faults breaches is_passed)
     tells_document found parts told = record { full = full; cycles = cycles; bound = bound }
       where
-        full : (f : PlacedDocumentFault) → FailsBesides s d f → Contains All f
+        full : (f : PlacedDocumentFault) → FailsOtherwise s d f → Contains All f
         full (OfData f) h = data_in faults breaches is_passed f (parts.full f h)
         full (OfDocument b) h = broken_in faults breaches is_passed b (told b h)
         full (OfLimit place) h = absurd h
@@ -108,7 +108,7 @@ module _ (s : SchemaTree Place) (d : MeantDocument Place) where
           (
             is,
             (
-              first_tells {Right = SomeFails s d} {TellsAll = TellsDocument s d} (take most_told all) all refl (λ f c. besides_some f (fails f c))
+              first_tells {Right = SomeFails s d} {TellsAll = TellsDocument s d} (take most_told all) all refl (λ f c. otherwise_some f (fails f c))
                   (parts_told faults breaches is_passed given.full breaks.full (tells_document faults breaches is_passed found)),
               inl (λ f c. fails f (of_first all f c)),
             ),
@@ -126,7 +126,7 @@ module _ (s : SchemaTree Place) (d : MeantDocument Place) where
   tells_merging : TellsDocument s d [] → (told : List PlacedDocumentFault) → TellsDocument s d told
   tells_merging tells told = record { full = full; cycles = cycles; bound = bound }
     where
-      full : (f : PlacedDocumentFault) → FailsBesides s d f → Contains told f
+      full : (f : PlacedDocumentFault) → FailsOtherwise s d f → Contains told f
       full f h = absurd (not_in_nil f (tells.full f h))
 
       cycles : (g : MeantFragment Place) → IsUsed d g → ReachesItself d g → (f : PlacedDocumentFault) × (Contains told f × AnswersFragment g f)

@@ -29,7 +29,7 @@ use Rattle.rule_fragments.specs.Possible.{ObjectsOfTypes, ArePossibleIfFound}
 use Rattle.rule_fragments.specs.UnlessFull.{IsFull, HasAll, TellsUnlessFull}
 use Rattle.rule_fragments.specs.Used.{AreUnderOwnNames, AreUsed}
 use Rattle.rule_merging.specs.Merged.{MergingFailsAt}
-use Rattle.rule_selections.specs.Settled.{StandInWith, StandInEach}
+use Rattle.rule_selections.specs.Settled.{MayReplaceWith, MayReplaceInEach}
 use Rattle.rule_selections.specs.Typed.{ReachesTyped}
 use Rattle.graphql_validation.specs.Operations.{OperationFailsAlone, OperationFails, ReachesNamed, AreReachesTyped, NotesNames, FragmentsTold, DataTold, AllAlone, AllUnder}
 use Rattle.graphql_validation.specs.declared.found.Found.{Found}
@@ -84,20 +84,20 @@ module _ (s : SchemaTree Place) where
 
   -- what is found in an operation, for any document whose fragments these may replace
   abbrev pub FindsUnder : {S : Type 0} → FragmentsOf S → MeantOperation Place → Option ObjectsOfTypes → Found → Found → Type 0
-  FindsUnder fragments o possible old new = (d : MeantDocument Place) → StandInWith s o.variables d.fragments (meant_fragments fragments) → ReachesTyped (meanings (plain s)) d o → ArePossibleIfFound (judged s) possible
+  FindsUnder fragments o possible old new = (d : MeantDocument Place) → MayReplaceWith s o.variables d.fragments (meant_fragments fragments) → ReachesTyped (meanings (plain s)) d o → ArePossibleIfFound (judged s) possible
       → Adds old.faults new.faults (OperationFails d o s)
 
   abbrev pub NotesUnder : {S : Type 0} → FragmentsOf S → MeantOperation Place → Found → Found → Type 0
-  NotesUnder fragments o old new = (d : MeantDocument Place) → StandInWith s o.variables d.fragments (meant_fragments fragments) → NotesReached d o old new
+  NotesUnder fragments o old new = (d : MeantDocument Place) → MayReplaceWith s o.variables d.fragments (meant_fragments fragments) → NotesReached d o old new
 
   module _ (d : MeantDocument Place) where
     -- what is found in the operations of the document, if these may replace its fragments
     abbrev pub FindsAllUnder : {S : Type 0} → FragmentsOf S → Option ObjectsOfTypes → Found → Type 0
-    FindsAllUnder fragments possible found = StandInEach s d (meant_fragments fragments) → AreReachesTyped s d → ArePossibleIfFound (judged s) possible
+    FindsAllUnder fragments possible found = MayReplaceInEach s d (meant_fragments fragments) → AreReachesTyped s d → ArePossibleIfFound (judged s) possible
         → FindsAll d (λ o. OperationFails d o s) found
 
     abbrev pub NotesAllUnder : {S : Type 0} → FragmentsOf S → Found → Type 0
-    NotesAllUnder fragments found = StandInEach s d (meant_fragments fragments) → NotesAllReached d found
+    NotesAllUnder fragments found = MayReplaceInEach s d (meant_fragments fragments) → NotesAllReached d found
 
     abbrev pub TellsUnder : List PlacedFault → Type 0
     TellsUnder told = AreReachesTyped s d → AreUnderOwnNames d → DataTold d (AllUnder s d) (λ o. OperationFails d o s) told

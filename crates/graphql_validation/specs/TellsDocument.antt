@@ -28,10 +28,10 @@ module _ (s : SchemaTree Place) (d : MeantDocument Place) where
   IsTypedUnder = IsTypedDocument (meanings (plain s)) d
 
   -- a rule is broken, ignoring those on fragments that reach themselves and on merging
-  abbrev pub FailsBesides : PlacedDocumentFault → Type 0
-  FailsBesides (OfData fault) = AtOperation d (λ o. OperationFails d o s fault) ⊎ UnusedFragmentAt d fault
-  FailsBesides (OfDocument fault) = AtOperation d (λ o. SubscriptionBreaks d o fault) ⊎ DeferredBreaks d fault
-  FailsBesides (OfLimit place) = ⊥
+  abbrev pub FailsOtherwise : PlacedDocumentFault → Type 0
+  FailsOtherwise (OfData fault) = AtOperation d (λ o. OperationFails d o s fault) ⊎ UnusedFragmentAt d fault
+  FailsOtherwise (OfDocument fault) = AtOperation d (λ o. SubscriptionBreaks d o fault) ⊎ DeferredBreaks d fault
+  FailsOtherwise (OfLimit place) = ⊥
 
   -- a rule on documents or on merging is broken, or a bound is passed
   abbrev pub SomeFails : PlacedDocumentFault → Type 0
@@ -48,7 +48,7 @@ module _ (s : SchemaTree Place) (d : MeantDocument Place) where
   -- these tell all that fails in the document: of cycles, each fragment that reaches itself; of bounds, that on paths if one text passes
   -- it. What does not merge may be told in part
   pub record TellsDocument (told : List PlacedDocumentFault) : Type 0 where
-    pub full : (f : PlacedDocumentFault) → FailsBesides f → Contains told f
+    pub full : (f : PlacedDocumentFault) → FailsOtherwise f → Contains told f
     pub cycles : (g : MeantFragment Place) → IsUsed d g → ReachesItself d g → (f : PlacedDocumentFault) × (Contains told f × AnswersFragment g f)
     pub bound : NestsTooDeep d → Contains told (OfLimit None)
 

@@ -173,11 +173,11 @@ rows_more from (r ∷ rows) zero high low old new at lt is le is_out is_in same 
     IsPermutation-append_left (pairs_from (from + 1) rows) (with_first high low ∷ pairs_of_row from r) (pairs_of_row from new) moved
 rows_more from (r ∷ rows) (suc i) high low old new at lt is le is_out is_in same =
     let before = pairs_of_row from r in
-    let behind = pairs_from (from + 1) rows in
+    let following = pairs_from (from + 1) rows in
     let rest = rows_more (from + 1) rows i high low old new (omega (arith, at)) (omega (arith, lt)) is le is_out is_in same in
-    IsPermutation-trans (with_first high low ∷ (before ++ behind)) (before ++ with_first high low ∷ behind) (before ++ pairs_from (from + 1) (set rows i new))
-    (IsPermutation-sym (before ++ with_first high low ∷ behind) (with_first high low ∷ (before ++ behind)) (IsPermutation-middle before (with_first high low) behind))
-    (IsPermutation-append_right before (with_first high low ∷ behind) (pairs_from (from + 1) (set rows i new)) rest)
+    IsPermutation-trans (with_first high low ∷ (before ++ following)) (before ++ with_first high low ∷ following) (before ++ pairs_from (from + 1) (set rows i new))
+    (IsPermutation-sym (before ++ with_first high low ∷ following) (with_first high low ∷ (before ++ following)) (IsPermutation-middle before (with_first high low) following))
+    (IsPermutation-append_right before (with_first high low ∷ following) (pairs_from (from + 1) (set rows i new)) rest)
 
 -- a pair is in the row of its greater number
 pub of_rows : (from : ℕ) (rows : List Bits) (d : Bits) (p : ℕ × ℕ) → Contains (pairs_from from rows) p

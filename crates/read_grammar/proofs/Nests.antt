@@ -96,22 +96,22 @@ none_closed : (n : ℕ) → Closed n []
 unfolding depth
 none_closed n = record { even = refl; deep = omega arith }
 
-stops_behind : (n : ℕ) (xs ys : List Token) (stop : ParseError) (o : Input) → Closed n xs → StopsAt n ys stop o → StopsAt n (xs ++ ys) stop o
-stops_behind n xs ys Unexpected o e h = tt
-stops_behind n xs ys Nesting o c h =
+stops_after : (n : ℕ) (xs ys : List Token) (stop : ParseError) (o : Input) → Closed n xs → StopsAt n ys stop o → StopsAt n (xs ++ ys) stop o
+stops_after n xs ys Unexpected o e h = tt
+stops_after n xs ys Nesting o c h =
     let e = c.even in
     let f = h.full in
     let k = depth-append xs ys (n + closes xs) (let d = c.deep in omega arith) (let d = h.within in omega arith) in
     record { full = omega (arith, count-append is_opening xs ys, count-append is_closing xs ys); opening = h.opening; within = omega arith }
-stops_behind n xs ys Memory o e h = h
+stops_after n xs ys Memory o e h = h
 
 module _ {A B : Type 0} {n : ℕ} {q : Parser A} {f : A → Parser B} (pp : Nested n q) (ff : (x : A) → Nested n (f x)) where
-  behind : (ts xs : List Token) (i : Input) (y : Outcome B) → ts ≡ xs ++ i.ahead → Closed n xs → At n i.ahead y → At n ts y
-  behind ts xs i (Ok z) e c h = (xs ++ h.0, e ∙ ap (λ (us : List Token). xs ++ us) h.1 ∙ sym (append_assoc xs h.0 z.1.ahead), Closed-append n xs h.0 c h.2)
-  behind ts xs i (Err g) e c h = (xs ++ h.0, e ∙ ap (λ (us : List Token). xs ++ us) h.1 ∙ sym (append_assoc xs h.0 g.1.ahead), stops_behind n xs h.0 g.0 g.1 c h.2)
+  following : (ts xs : List Token) (i : Input) (y : Outcome B) → ts ≡ xs ++ i.ahead → Closed n xs → At n i.ahead y → At n ts y
+  following ts xs i (Ok z) e c h = (xs ++ h.0, e ∙ ap (λ (us : List Token). xs ++ us) h.1 ∙ sym (append_assoc xs h.0 z.1.ahead), Closed-append n xs h.0 c h.2)
+  following ts xs i (Err g) e c h = (xs ++ h.0, e ∙ ap (λ (us : List Token). xs ++ us) h.1 ∙ sym (append_assoc xs h.0 g.1.ahead), stops_after n xs h.0 g.0 g.1 c h.2)
 
   then_at : (ts : List Token) (y : Outcome A) → At n ts y → At n ts (and_then y f)
-  then_at ts (Ok z) h = behind ts h.0 z.1 (f z.0 z.1) h.1 h.2 ((ff z.0).at z.1)
+  then_at ts (Ok z) h = following ts h.0 z.1 (f z.0 z.1) h.1 h.2 ((ff z.0).at z.1)
   then_at ts (Err g) h = h
 
   pub bound : Nested n (λ i. and_then (q i) f)

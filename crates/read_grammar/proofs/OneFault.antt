@@ -13,8 +13,8 @@ compare zero (suc b) = inl (omega arith)
 compare (suc a) (suc b) = elim (compare a b) [ inl h ↦ inl (omega (arith, h)) | inr h ↦ inr (omega (arith, h)) ]
 
 -- after two prefixes of one list come the same tokens, if there are equally many
-same_behind : (a b c d : List Token) → a ++ b ≡ c ++ d → length b ≡ length d → b ≡ d
-same_behind a b c d e long =
+same_after : (a b c d : List Token) → a ++ b ≡ c ++ d → length b ≡ length d → b ≡ d
+same_after a b c d e long =
     let all = ap (λ (ts : List Token). length ts) e in
     let far : length a ≡ length c = omega (arith, all, long, length-append a b, length-append c d) in
     sym (drop-append_seam a b) ∙ ap (λ (ts : List Token). drop (length a) ts) e ∙ ap (λ (n : ℕ). drop n (c ++ d)) far ∙ drop-append_seam c d
@@ -25,8 +25,8 @@ offset_of (NoTokenAt at) = at
 
 module _ {A : Type 0} (symbol : Symbol A) (tokens : List Token) where
   -- tokens that begin no text begin none with more tokens after them
-  no_further : (front behind : List Token) → BeginsNone symbol front → BeginsSome symbol (front ++ behind) → ⊥
-  no_further front behind none some = none (behind ++ some.0) some.1 (subst (λ (ts : List Token). symbol ts some.1) (append_assoc front behind some.0) some.2)
+  no_further : (front following : List Token) → BeginsNone symbol front → BeginsSome symbol (front ++ following) → ⊥
+  no_further front following none some = none (following ++ some.0) some.1 (subst (λ (ts : List Token). symbol ts some.1) (append_assoc front following some.0) some.2)
 
   -- what begins a text ends before the token that cannot follow
   stands_before : (at : ℕ) (x : IsUnexpected symbol tokens at) (front rest : List Token) → tokens ≡ front ++ rest → BeginsSome symbol front → length rest ≤ length x.stands.rest → ⊥
@@ -42,7 +42,7 @@ module _ {A : Type 0} (symbol : Symbol A) (tokens : List Token) where
       go (inr more) (inl less) = absurd (stands_before at x y.front (y.token ∷ y.stands.rest) y.stands.parts y.begins_some (omega arith))
       go (inr more) (inr least) =
           sym x.stands.at
-          ∙ ap begin_of (same_behind x.front (x.token ∷ x.stands.rest) y.front (y.token ∷ y.stands.rest) (sym x.stands.parts ∙ y.stands.parts) (omega arith))
+          ∙ ap begin_of (same_after x.front (x.token ∷ x.stands.rest) y.front (y.token ∷ y.stands.rest) (sym x.stands.parts ∙ y.stands.parts) (omega arith))
           ∙ y.stands.at
 
   -- where all tokens begin a text, each can follow

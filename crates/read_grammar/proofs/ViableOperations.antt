@@ -43,25 +43,25 @@ module _ {P : Type 0} (m : Meaning P) where
   second first = (λ x. (Some first, x.1)) <&> read.mark is_colon ⊙ v.name m
 
   -- what follows the first name
-  abbrev behind_name : Text P → Rule (Option (Text P) × Text P)
-  behind_name first i y z = (renamed first i y z) ⊎ ((y ≡ (None, first)) × (z ≡ i))
+  abbrev after_name : Text P → Rule (Option (Text P) × Text P)
+  after_name first i y z = (renamed first i y z) ⊎ ((y ≡ (None, first)) × (z ≡ i))
 
-  behind_name_at : (first : Text P) (i : Input) → Goes false (behind_name first) any i (read.when is_colon (second first) (read.pure (None, first)) i)
-  behind_name_at first i = by_case (next_is is_colon (next i))
+  after_name_at : (first : Text P) (i : Input) → Goes false (after_name first) any i (read.when is_colon (second first) (read.pure (None, first)) i)
+  after_name_at first i = by_case (next_is is_colon (next i))
     where
-      by_case : (b : Bool) → Goes false (behind_name first) any i (cond b (second first i) (Ok ((None, first), i)))
-      by_case true = into false {r = renamed first} {s = behind_name first} any (λ i x z h. inl h) i _ ((loose (mapped (λ x. (Some first, x.1)) (seq (mark is_colon k.Colon refl) (name_viable m)))).at i)
+      by_case : (b : Bool) → Goes false (after_name first) any i (cond b (second first i) (Ok ((None, first), i)))
+      by_case true = into false {r = renamed first} {s = after_name first} any (λ i x z h. inl h) i _ ((loose (mapped (λ x. (Some first, x.1)) (seq (mark is_colon k.Colon refl) (name_viable m)))).at i)
       by_case false = ([], refl, λ never. absurd cc, λ rest fo. inr (refl, refl))
 
-  aliased_by : (i : Input) (x : Text P) (mid : Input) (y : Option (Text P) × Text P) (z : Input) → vg.name m i x mid → behind_name x mid y z → aliased i y z
+  aliased_by : (i : Input) (x : Text P) (mid : Input) (y : Option (Text P) × Text P) (z : Input) → vg.name m i x mid → after_name x mid y z → aliased i y z
   aliased_by i x mid y z a (inl h) = subst (λ (w : Option (Text P) × Text P). aliased i w z) (sym h.2) (h.1.0, ((x, h.0.0), (mid, a, h.1.1), refl), h.1.2)
   aliased_by i x mid y z a (inr h) = subst (λ (w : Option (Text P) × Text P). aliased i w z) (sym h.0) (subst (λ (w : Input). aliased i (None, x) w) (sym h.1) (i, refl, a))
 
   pub alias_viable : Viable true aliased (o.alias_and_name m) any
   unfolding o.alias_and_name
   alias_viable =
-      bound false behind_name aliased (λ first. read.when is_colon (second first) (read.pure (None, first))) any aliased_by
-      (λ rest fo. (rest, omega arith, λ x i e. ((None, x), i, e, inr (refl, refl)))) (name_viable m) behind_name_at
+      bound false after_name aliased (λ first. read.when is_colon (second first) (read.pure (None, first))) any aliased_by
+      (λ rest fo. (rest, omega arith, λ x i e. ((None, x), i, e, inr (refl, refl)))) (name_viable m) after_name_at
 
   -- ---- fields
 

@@ -32,7 +32,7 @@ abbrev pub BeginsSome : {A : Type 0} → Symbol A → List Token → Type 0
 BeginsSome {A} symbol tokens = (more : List Token) × (tree : A) × symbol (tokens ++ more) tree
 
 -- the token at this offset, after those of `front`
-pub record StandsAt (tokens front : List Token) (offset : ℕ) (token : Token) : Type 0 where
+pub record IsTokenAt (tokens front : List Token) (offset : ℕ) (token : Token) : Type 0 where
   pub rest : List Token
   pub parts : tokens ≡ front ++ token ∷ rest
   pub at : token.offset ≡ offset
@@ -41,7 +41,7 @@ pub record StandsAt (tokens front : List Token) (offset : ℕ) (token : Token) :
 pub record IsUnexpected {A : Type 0} (symbol : Symbol A) (tokens : List Token) (offset : ℕ) : Type 0 where
   pub front : List Token
   pub token : Token
-  pub stands : StandsAt tokens front offset token
+  pub stands : IsTokenAt tokens front offset token
   pub begins_some : BeginsSome symbol front
   pub begins_none : BeginsNone symbol (front ++ token ∷ [])
 
@@ -49,14 +49,14 @@ pub record IsUnexpected {A : Type 0} (symbol : Symbol A) (tokens : List Token) (
 pub record MayStand {A : Type 0} (symbol : Symbol A) (tokens : List Token) (offset : ℕ) : Type 0 where
   pub front : List Token
   pub token : Token
-  pub stands : StandsAt tokens front offset token
+  pub stands : IsTokenAt tokens front offset token
   pub begins_some : BeginsSome symbol (front ++ token ∷ [])
 
 -- the first bracket that exceeds the limit opens at this offset
 pub record IsTooDeep (tokens : List Token) (nesting offset : ℕ) : Type 0 where
   pub front : List Token
   pub token : Token
-  pub stands : StandsAt tokens front offset token
+  pub stands : IsTokenAt tokens front offset token
   pub opens : is_opening token.kind ≡ true
   pub within : depth front ≤ nesting
   pub above : nesting < depth (front ++ token ∷ [])

@@ -93,11 +93,11 @@ abbrev pub between : {A : Type 0} → (Terminal → Bool) → Parser A → (Term
 between opening p closing = (λ x. x.1.0) <&> mark opening ⊙ p ⊙ mark closing
 
 -- one more, after a mark
-abbrev pub behind : {A : Type 0} → (Terminal → Bool) → Parser A → Parser A
-behind is p = (λ x. x.1) <&> mark is ⊙ p
+abbrev pub following : {A : Type 0} → (Terminal → Bool) → Parser A → Parser A
+following is p = (λ x. x.1) <&> mark is ⊙ p
 
 abbrev pub separated : {A : Type 0} → (Terminal → Bool) → Parser A → Parser (List A)
-separated is p = (λ x. x.1.0 ∷ x.1.1) <&> try is (mark is) ⊙ p ⊙ many is (behind is p)
+separated is p = (λ x. x.1.0 ∷ x.1.1) <&> try is (mark is) ⊙ p ⊙ many is (following is p)
 
 -- ---- all tokens
 

@@ -47,6 +47,6 @@ done x z = Ok (x, z)
 
 pub name_taken : (file : FileId) (i new : Input) (text : List ℕ) (place : Place) → next_is is_name (next i) ≡ true → new ≡ skipped i → text ≡ text_of i.ahead → place ≡ place_in file.0 (begin_of i.ahead) new.last → reading.name (in_file file) i ≡ Ok (named text place, new)
 unfolding reading.name
-name_taken file i new text place h behind is at =
-    taken_yes (name_of (in_file file)) is_name i (named text place) h (name_made file i text place is (at ∙ ap (λ (z : Input). place_in file.0 (begin_of i.ahead) z.last) behind))
-    ∙ ap (λ (z : Input). done (named text place) z) (sym behind)
+name_taken file i new text place h following is at =
+    taken_yes (name_of (in_file file)) is_name i (named text place) h (name_made file i text place is (at ∙ ap (λ (z : Input). place_in file.0 (begin_of i.ahead) z.last) following))
+    ∙ ap (λ (z : Input). done (named text place) z) (sym following)

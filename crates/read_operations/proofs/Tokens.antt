@@ -77,7 +77,7 @@ module _ {P : Type 0} (m : Meaning P) where
 
   pub int_taken : (i new : Input) (text : List ℕ) → next_is is_int (next i) ≡ true → new ≡ skipped i → text ≡ first_text i.ahead → v.int_value m i ≡ Ok (IntTree text, new)
   unfolding v.int_value
-  int_taken i new text h behind e = taken_yes (λ t. IntTree t.text) is_int i (IntTree text) h (λ t ts at. ap (λ (x : List ℕ). IntTree x) (e ∙ ap first_text at)) ∙ ap (λ (z : Input). done (IntTree text) z) (sym behind)
+  int_taken i new text h following e = taken_yes (λ t. IntTree t.text) is_int i (IntTree text) h (λ t ts at. ap (λ (x : List ℕ). IntTree x) (e ∙ ap first_text at)) ∙ ap (λ (z : Input). done (IntTree text) z) (sym following)
 
   pub float_refused : (i : Input) → next_is is_float (next i) ≡ false → v.float_value m i ≡ Err (Unexpected, i)
   unfolding v.float_value
@@ -85,7 +85,7 @@ module _ {P : Type 0} (m : Meaning P) where
 
   pub float_taken : (i new : Input) (text : List ℕ) → next_is is_float (next i) ≡ true → new ≡ skipped i → text ≡ first_text i.ahead → v.float_value m i ≡ Ok (FloatTree text, new)
   unfolding v.float_value
-  float_taken i new text h behind e = taken_yes (λ t. FloatTree t.text) is_float i (FloatTree text) h (λ t ts at. ap (λ (x : List ℕ). FloatTree x) (e ∙ ap first_text at)) ∙ ap (λ (z : Input). done (FloatTree text) z) (sym behind)
+  float_taken i new text h following e = taken_yes (λ t. FloatTree t.text) is_float i (FloatTree text) h (λ t ts at. ap (λ (x : List ℕ). FloatTree x) (e ∙ ap first_text at)) ∙ ap (λ (z : Input). done (FloatTree text) z) (sym following)
 
   -- what a function makes of what is read, made by another
   again : {A B : Type 0} (f : Token → A) (g : A → B) (i : Input) → (g <&> (f <&> take is_string)) i ≡ ((λ t. g (f t)) <&> take is_string) i
@@ -101,13 +101,13 @@ unfolding v.string_value
 string_value_is file i = sym (again (in_file file) string_of (λ bytes. StringTree bytes) i)
 
 pub quoted_taken : (i new : Input) (bytes : List ℕ) → next_is (is t.String) (next i) ≡ true → new ≡ skipped i → bytes ≡ string_value (first_text i.ahead) → string_meant i ≡ Ok (bytes, new)
-quoted_taken i new bytes h behind e = taken_yes string_of is_string i bytes (from_subset (next_is (is t.String)) (next_is is_string) refl (next i) h) (λ u us at. e ∙ ap (λ (ts : List Token). string_value (first_text ts)) at ∙ made u (ap next_of at) h) ∙ ap (λ (z : Input). done bytes z) (sym behind)
+quoted_taken i new bytes h following e = taken_yes string_of is_string i bytes (from_subset (next_is (is t.String)) (next_is is_string) refl (next i) h) (λ u us at. e ∙ ap (λ (ts : List Token). string_value (first_text ts)) at ∙ made u (ap next_of at) h) ∙ ap (λ (z : Input). done bytes z) (sym following)
   where
     made : (u : Token) → next i ≡ Some u.kind → next_is (is t.String) (next i) ≡ true → string_value u.text ≡ string_of u
     made u at h = let kind : u.kind ≡ t.String = is_same t.String u.kind (sym (ap (next_is (is t.String)) at) ∙ h) in sym (ap (λ (x : Terminal). string_by x u.text) kind)
 
 pub block_taken : (i new : Input) (bytes : List ℕ) → next_is is_block_string (next i) ≡ true → new ≡ skipped i → bytes ≡ block_value (first_text i.ahead) → string_meant i ≡ Ok (bytes, new)
-block_taken i new bytes h behind e = taken_yes string_of is_string i bytes (from_subset (next_is is_block_string) (next_is is_string) refl (next i) h) (λ u us at. e ∙ ap (λ (ts : List Token). block_value (first_text ts)) at ∙ made u (ap next_of at) h) ∙ ap (λ (z : Input). done bytes z) (sym behind)
+block_taken i new bytes h following e = taken_yes string_of is_string i bytes (from_subset (next_is is_block_string) (next_is is_string) refl (next i) h) (λ u us at. e ∙ ap (λ (ts : List Token). block_value (first_text ts)) at ∙ made u (ap next_of at) h) ∙ ap (λ (z : Input). done bytes z) (sym following)
   where
     made : (u : Token) → next i ≡ Some u.kind → next_is is_block_string (next i) ≡ true → block_value u.text ≡ string_of u
     made u at h = let kind : u.kind ≡ t.BlockString = is_same t.BlockString u.kind (sym (ap (next_is is_block_string) at) ∙ h) in sym (ap (λ (x : Terminal). string_by x u.text) kind)

@@ -52,22 +52,22 @@ module _ {P : Type 0} (m : Meaning P) where
       go false e = rw (between_no is_open_bracket is_close_bracket (v.type m n) i e) refl
 
   -- what is read after the part that may be the whole type
-  abbrev behind : Outcome (TypeTree P) → Outcome (TypeTree P)
-  behind y = and_then (and_then y (λ x k. and_then (try is_bang (mark is_bang) k) (λ z o. Ok ((x, z), o)))) (λ x o. Ok (type_of x, o))
+  abbrev following : Outcome (TypeTree P) → Outcome (TypeTree P)
+  following y = and_then (and_then y (λ x k. and_then (try is_bang (mark is_bang) k) (λ z o. Ok ((x, z), o)))) (λ x o. Ok (type_of x, o))
 
-  pub type_is : (n : ℕ) (i : Input) → v.type m n i ≡ behind (unmarked_type m n i)
+  pub type_is : (n : ℕ) (i : Input) → v.type m n i ≡ following (unmarked_type m n i)
   unfolding v.type v.any_type
-  type_is zero i = ap (λ (y : Outcome (TypeTree P)). behind (cond (next_is is_name (next i)) ((NamedTree <&> v.name m) i) y)) (in_brackets zero i)
-  type_is (suc n) i = ap (λ (y : Outcome (TypeTree P)). behind (cond (next_is is_name (next i)) ((NamedTree <&> v.name m) i) y)) (in_brackets (suc n) i)
+  type_is zero i = ap (λ (y : Outcome (TypeTree P)). following (cond (next_is is_name (next i)) ((NamedTree <&> v.name m) i) y)) (in_brackets zero i)
+  type_is (suc n) i = ap (λ (y : Outcome (TypeTree P)). following (cond (next_is is_name (next i)) ((NamedTree <&> v.name m) i) y)) (in_brackets (suc n) i)
 
   pub type_plain : (n : ℕ) (i k : Input) (x : TypeTree P) → unmarked_type m n i ≡ Ok (x, k) → next_is is_bang (next k) ≡ false → v.type m n i ≡ Ok (x, k)
-  type_plain n i k x h none = type_is n i ∙ ap behind h ∙ rw none refl
+  type_plain n i k x h none = type_is n i ∙ ap following h ∙ rw none refl
 
   pub type_marked : (n : ℕ) (i k : Input) (x y : TypeTree P) → unmarked_type m n i ≡ Ok (x, k) → next_is is_bang (next k) ≡ true → y ≡ non_null_type x → v.type m n i ≡ Ok (y, skipped k)
-  type_marked n i k x y h bang e = type_is n i ∙ ap behind h ∙ rw bang (rw (mark_yes is_bang k bang) (ap (λ (z : TypeTree P). done z (skipped k)) (marked x ∙ sym e)))
+  type_marked n i k x y h bang e = type_is n i ∙ ap following h ∙ rw bang (rw (mark_yes is_bang k bang) (ap (λ (z : TypeTree P). done z (skipped k)) (marked x ∙ sym e)))
 
   pub type_stops : (n : ℕ) (i k : Input) (e : ParseError) → unmarked_type m n i ≡ Err (e, k) → v.type m n i ≡ Err (e, k)
-  type_stops n i k e h = type_is n i ∙ ap behind h
+  type_stops n i k e h = type_is n i ∙ ap following h
 
   pub unmarked_name : (n : ℕ) (i : Input) → next_is is_name (next i) ≡ true → unmarked_type m n i ≡ (NamedTree <&> v.name m) i
   unmarked_name n i h = rw h refl

@@ -28,8 +28,8 @@ fn condition_and_set(
     ensures { Reads condition_and_set_view (steps.condition_and_set (in_file file) depth tokens.old) result tokens.new }
 {
     let condition = type_condition(tokens, file)?;
-    let behind = directives_and_set(alloc, tokens, file, depth)?;
-    Ok((condition, behind))
+    let following = directives_and_set(alloc, tokens, file, depth)?;
+    Ok((condition, following))
 }
 
 /// FragmentDefinition: `"fragment" FragmentName TypeCondition Directives? SelectionSet`.

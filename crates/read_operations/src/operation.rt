@@ -95,8 +95,8 @@ fn variables_and_set(
     ensures { Reads variables_and_set_view (steps.variables_and_set (in_file file) depth tokens.old) result tokens.new }
 {
     let variables = optional_variables(alloc, tokens, file, depth)?;
-    let behind = directives_and_set(alloc, tokens, file, depth)?;
-    Ok((variables, behind))
+    let following = directives_and_set(alloc, tokens, file, depth)?;
+    Ok((variables, following))
 }
 
 /// `OperationType Name? VariableDefinitions? Directives? SelectionSet`

@@ -9,7 +9,7 @@ use Rattle.std.proofs.lemmas.List.Sums.{prefix_len_passes, prefix_len-le-length}
 use Rattle.std.proofs.lemmas.Str.{IsCharBoundary-before_ascii, IsCharBoundary-after_ascii, IsCharBoundary-end}
 use Rattle.graphql_names.specs.NameSyntax.{is_name_start, is_name_continue}
 use Rattle.read_tokens.specs.Bytes.{begins_by, begins_with, run_len}
-use Rattle.read_tokens.specs.Numbers.{is_zero, is_point, is_exponent_mark, is_sign, sign_len, whole_len, digits_behind, fraction_len, exponent_len, goes_on, number_kind, number_at}
+use Rattle.read_tokens.specs.Numbers.{is_zero, is_point, is_exponent_mark, is_sign, sign_len, whole_len, digits_after, fraction_len, exponent_len, goes_on, number_kind, number_at}
 use Rattle.read_tokens.specs.Strings.{part_len, closed_len, quoted_len}
 use Rattle.read_tokens.specs.Blocks.{quotes, block_character_len, block_len}
 use Rattle.read_tokens.specs.Tokens.{punctuator, one_byte, of_kind, string_at, token_at}
@@ -94,8 +94,8 @@ whole_ends bytes n h = elim (some_if (begins_by is_zero bytes) 1 n _ h) [
   ]
 ]
 
-digits_end : (m : ℕ) (bytes : List ℕ) (n : ℕ) → digits_behind m bytes ≡ Some n → EndsAt bytes n
-unfolding digits_behind
+digits_end : (m : ℕ) (bytes : List ℕ) (n : ℕ) → digits_after m bytes ≡ Some n → EndsAt bytes n
+unfolding digits_after
 digits_end m bytes n h = elim (some_if (begins_by is_ascii_digit (drop m bytes)) (m + prefix_len is_ascii_digit (drop m bytes)) n None h) [
   | inl e ↦ subst (EndsAt bytes) e.1 (shifted m bytes _ (run_ends is_ascii_digit digit_below (drop m bytes) e.0))
   | inr h ↦ absurd cc
@@ -107,14 +107,14 @@ MayEndAt bytes n = (0 ≡ n) ⊎ EndsAt bytes n
 
 fraction_ends : (bytes : List ℕ) (n : ℕ) → fraction_len bytes ≡ Some n → MayEndAt bytes n
 unfolding fraction_len
-fraction_ends bytes n h = elim (choice (begins_by is_point bytes) (digits_behind 1 bytes) (Some 0) n h) [
+fraction_ends bytes n h = elim (choice (begins_by is_point bytes) (digits_after 1 bytes) (Some 0) n h) [
   | inl e ↦ inr (digits_end 1 bytes n e.1)
   | inr e ↦ inl (same_some 0 n e)
 ]
 
 exponent_ends : (bytes : List ℕ) (n : ℕ) → exponent_len bytes ≡ Some n → MayEndAt bytes n
 unfolding exponent_len
-exponent_ends bytes n h = elim (choice (begins_by is_exponent_mark bytes) (digits_behind (cond (begins_by is_sign (drop 1 bytes)) 2 1) bytes) (Some 0) n h) [
+exponent_ends bytes n h = elim (choice (begins_by is_exponent_mark bytes) (digits_after (cond (begins_by is_sign (drop 1 bytes)) 2 1) bytes) (Some 0) n h) [
   | inl e ↦ inr (digits_end _ bytes n e.1)
   | inr e ↦ inl (same_some 0 n e)
 ]
@@ -269,8 +269,8 @@ cut_before text at t h =
     let zero_at : at + 0 ≡ at = omega arith in
     IsCharBoundary-before_ascii text at (omega arith) (subst (λ (c : ℕ). c < 128) (get_or-drop at text 0 0 ∙ ap (λ (i : ℕ). get_or text i 0) zero_at) e.first)
 
-pub cut_behind : (text : List ℕ) (at : ℕ) (t : TokenKind × ℕ) → token_at (drop at text) ≡ Some t → IsUtf8 text → IsCharBoundary text (at + t.1)
-cut_behind text at t h utf8 =
+pub cut_after : (text : List ℕ) (at : ℕ) (t : TokenKind × ℕ) → token_at (drop at text) ≡ Some t → IsUtf8 text → IsCharBoundary text (at + t.1)
+cut_after text at t h utf8 =
     let e = shifted at text t.1 (token_ends (drop at text) t h).ends in
     let some = e.some in
     let within = e.within in
@@ -288,5 +288,5 @@ token_fits text at t h =
     omega arith
 
 -- after a token a caller goes on
-pub goes_on_behind : (text : List ℕ) (at : ℕ) (t : TokenKind × ℕ) → token_at (drop at text) ≡ Some t → IsUtf8 text → (0 < t.1) × IsCharBoundary text (at + t.1)
-goes_on_behind text at t h utf8 = ((token_ends (drop at text) t h).ends.some, cut_behind text at t h utf8)
+pub goes_on_after : (text : List ℕ) (at : ℕ) (t : TokenKind × ℕ) → token_at (drop at text) ≡ Some t → IsUtf8 text → (0 < t.1) × IsCharBoundary text (at + t.1)
+goes_on_after text at t h utf8 = ((token_ends (drop at text) t h).ends.some, cut_after text at t h utf8)

@@ -6,7 +6,7 @@ use Rattle.std.proofs.lemmas.List.Sums.{prefix_len_is}
 use Rattle.memchr.specs.Find.{IsFirstByte, is_byte, is_byte2}
 use Rattle.read_tokens.specs.Bytes.{begins_with, run_len}
 use Rattle.read_tokens.specs.Tokens.{is_ignored_byte, ignored_at}
-use Rattle.read_tokens.specs.Strings.{behind_mark, escape_at, part_len}
+use Rattle.read_tokens.specs.Strings.{after_mark, escape_at, part_len}
 use Rattle.read_tokens.specs.Blocks.{quotes, block_character_len}
 use Rattle.read_tokens.specs.Runs.{is_plain_part, is_plain_character}
 
@@ -74,7 +74,7 @@ part_steps : Steps is_plain_part part_len
 unfolding part_len
 part_steps b bytes h = go (b == 34) (b == 92) (b == 10) (b == 13) h
   where
-    go : (q e n r : Bool) → not (q || e || n || r) ≡ true → cond {A = Option ℕ} (q || n || r) None (cond e (behind_mark (escape_at bytes)) (Some 1)) ≡ Some 1
+    go : (q e n r : Bool) → not (q || e || n || r) ≡ true → cond {A = Option ℕ} (q || n || r) None (cond e (after_mark (escape_at bytes)) (Some 1)) ≡ Some 1
     go true e n r h = absurd cc
     go false true n r h = absurd cc
     go false false true r h = absurd cc

@@ -61,9 +61,9 @@ lexed_more at bytes p found more =
       ends = go there place more.ends;
     })
   where
-    go : {behind behind' : List ℕ} {m m' : ℕ} {ending : Ending} → behind ≡ behind' → m ≡ m'
-        → ((behind ≡ []) × (ending ≡ Ended m)) ⊎ (NothingBegins behind × (ending ≡ NoTokenAt m))
-        → ((behind' ≡ []) × (ending ≡ Ended m')) ⊎ (NothingBegins behind' × (ending ≡ NoTokenAt m'))
+    go : {following following' : List ℕ} {m m' : ℕ} {ending : Ending} → following ≡ following' → m ≡ m'
+        → ((following ≡ []) × (ending ≡ Ended m)) ⊎ (NothingBegins following × (ending ≡ NoTokenAt m))
+        → ((following' ≡ []) × (ending ≡ Ended m')) ⊎ (NothingBegins following' × (ending ≡ NoTokenAt m'))
     go same place (inl e) = inl (sym same ∙ e.0, e.1 ∙ ap Ended place)
     go same place (inr e) = inr (subst NothingBegins same e.0, e.1 ∙ ap NoTokenAt place)
 

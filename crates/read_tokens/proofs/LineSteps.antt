@@ -23,10 +23,10 @@ indent_step line lines common = go (is_blank line)
     go false = least_some common (indent_of line) (common_indent lines)
 
 -- after the last line nothing is left, and the empty text has one blank line
-pub common_step : (left line behind : List ℕ) (common : Option ℕ) → Cut left line behind → least_of (least_indent line common) (common_indent (lines_of behind)) ≡ least_of common (common_indent (lines_of left))
+pub common_step : (left line following : List ℕ) (common : Option ℕ) → Cut left line following → least_of (least_indent line common) (common_indent (lines_of following)) ≡ least_of common (common_indent (lines_of left))
 unfolding lines_of
-common_step left line behind common (inl cut) = indent_step line (lines_of behind) common ∙ ap (λ (ls : List (List ℕ)). least_of common (common_indent ls)) (sym cut)
-common_step left line behind common (inr cut) =
+common_step left line following common (inl cut) = indent_step line (lines_of following) common ∙ ap (λ (ls : List (List ℕ)). least_of common (common_indent ls)) (sym cut)
+common_step left line following common (inr cut) =
     ap (λ (bs : List ℕ). least_of (least_indent line common) (common_indent (lines_of bs))) cut.0
     ∙ indent_step line [] common ∙ ap (λ (ls : List (List ℕ)). least_of common (common_indent ls)) (sym cut.1)
 
@@ -61,10 +61,10 @@ kept_more line lines count kept = go (is_blank line) (list_all is_blank lines) r
     go false true e = let none : length (without_blank_back lines) ≡ 0 = ap (λ (ls : List (List ℕ)). length ls) (none_kept lines e) in omega arith
     go false false e = omega arith
 
-pub kept_step : (left line behind : List ℕ) (count kept : ℕ) → Cut left line behind → kept_of (cond (is_blank line) kept (count + 1)) (count + 1) (lines_of behind) ≡ kept_of kept count (lines_of left)
+pub kept_step : (left line following : List ℕ) (count kept : ℕ) → Cut left line following → kept_of (cond (is_blank line) kept (count + 1)) (count + 1) (lines_of following) ≡ kept_of kept count (lines_of left)
 unfolding lines_of
-kept_step left line behind count kept (inl cut) = kept_more line (lines_of behind) count kept ∙ ap (kept_of kept count) (sym cut)
-kept_step left line behind count kept (inr cut) =
+kept_step left line following count kept (inl cut) = kept_more line (lines_of following) count kept ∙ ap (kept_of kept count) (sym cut)
+kept_step left line following count kept (inr cut) =
     ap (λ (bs : List ℕ). kept_of (cond (is_blank line) kept (count + 1)) (count + 1) (lines_of bs)) cut.0
     ∙ kept_more line [] count kept ∙ ap (kept_of kept count) (sym cut.1)
 
@@ -99,33 +99,33 @@ pub record Ready (k n : ℕ) (text : List ℕ) : Type 0 where
 pub ready_start : (k : ℕ) (text : List ℕ) → AtMost k (common_indent (lines_of text)) → Ready k (length (without_blank_back (lines_of text))) text
 ready_start k text under = record { enough = back_fits (lines_of text); under = under }
 
-pub ready_first : (k n : ℕ) (text line behind : List ℕ) → Cut text line behind → Ready k n text → is_blank line ≡ false → k ≤ indent_of line
-ready_first k n text line behind (inl cut) ready = at_most_first k line (lines_of behind) (subst (λ (ls : List (List ℕ)). AtMost k (common_indent ls)) cut ready.under)
-ready_first k n text line behind (inr cut) ready = at_most_first k line [] (subst (λ (ls : List (List ℕ)). AtMost k (common_indent ls)) cut.1 ready.under)
+pub ready_first : (k n : ℕ) (text line following : List ℕ) → Cut text line following → Ready k n text → is_blank line ≡ false → k ≤ indent_of line
+ready_first k n text line following (inl cut) ready = at_most_first k line (lines_of following) (subst (λ (ls : List (List ℕ)). AtMost k (common_indent ls)) cut ready.under)
+ready_first k n text line following (inr cut) ready = at_most_first k line [] (subst (λ (ls : List (List ℕ)). AtMost k (common_indent ls)) cut.1 ready.under)
 
-pub ready_more : (k n m : ℕ) (text line behind : List ℕ) → Cut text line behind → n ≡ suc m → Ready k n text → Ready k m behind
+pub ready_more : (k n m : ℕ) (text line following : List ℕ) → Cut text line following → n ≡ suc m → Ready k n text → Ready k m following
 unfolding lines_of
-ready_more k n m text line behind (inl cut) e ready =
-    let fits : n ≤ suc (length (lines_of behind)) = subst (λ (ls : List (List ℕ)). n ≤ length ls) cut ready.enough in
-    record { enough = omega arith; under = at_most_rest k line (lines_of behind) (subst (λ (ls : List (List ℕ)). AtMost k (common_indent ls)) cut ready.under) }
-ready_more k n m text line behind (inr cut) e ready =
+ready_more k n m text line following (inl cut) e ready =
+    let fits : n ≤ suc (length (lines_of following)) = subst (λ (ls : List (List ℕ)). n ≤ length ls) cut ready.enough in
+    record { enough = omega arith; under = at_most_rest k line (lines_of following) (subst (λ (ls : List (List ℕ)). AtMost k (common_indent ls)) cut ready.under) }
+ready_more k n m text line following (inr cut) e ready =
     let fits : n ≤ 1 = subst (λ (ls : List (List ℕ)). n ≤ length ls) cut.1 ready.enough in
     subst (Ready k m) (sym cut.0) (record { enough = omega arith; under = tt })
 
-pub further_more : (k n m : ℕ) (text line behind : List ℕ) → Cut text line behind → n ≡ suc m → Ready k n text
-    → further_lines k (take n (lines_of text)) ≡ (10 ∷ drop k line) ++ further_lines k (take m (lines_of behind))
-further_more k n m text line behind (inl cut) e ready = ap (λ (ls : List (List ℕ)). further_lines k (take n ls)) cut ∙ ap (λ (i : ℕ). further_lines k (take i (line ∷ lines_of behind))) e
-further_more k n m text line behind (inr cut) e ready =
+pub further_more : (k n m : ℕ) (text line following : List ℕ) → Cut text line following → n ≡ suc m → Ready k n text
+    → further_lines k (take n (lines_of text)) ≡ (10 ∷ drop k line) ++ further_lines k (take m (lines_of following))
+further_more k n m text line following (inl cut) e ready = ap (λ (ls : List (List ℕ)). further_lines k (take n ls)) cut ∙ ap (λ (i : ℕ). further_lines k (take i (line ∷ lines_of following))) e
+further_more k n m text line following (inr cut) e ready =
     let fits : n ≤ 1 = subst (λ (ls : List (List ℕ)). n ≤ length ls) cut.1 ready.enough in
     let none : m ≡ 0 = omega arith in
     ap (λ (ls : List (List ℕ)). further_lines k (take n ls)) cut.1 ∙ ap (λ (i : ℕ). further_lines k (take i (line ∷ []))) (e ∙ ap suc none)
-    ∙ ap (λ (i : ℕ). (10 ∷ drop k line) ++ further_lines k (take i (lines_of behind))) (sym none)
+    ∙ ap (λ (i : ℕ). (10 ∷ drop k line) ++ further_lines k (take i (lines_of following))) (sym none)
 
 -- a blank line at the front is passed over
-pub front_step : (k : ℕ) (text line behind : List ℕ) → Cut text line behind → is_blank line ≡ true → kept_from k (without_blank_front (lines_of behind)) ≡ kept_from k (without_blank_front (lines_of text))
+pub front_step : (k : ℕ) (text line following : List ℕ) → Cut text line following → is_blank line ≡ true → kept_from k (without_blank_front (lines_of following)) ≡ kept_from k (without_blank_front (lines_of text))
 unfolding lines_of
-front_step k text line behind (inl cut) blank = sym (ap (λ (ls : List (List ℕ)). kept_from k (without_blank_front ls)) cut ∙ rw blank refl)
-front_step k text line behind (inr cut) blank =
+front_step k text line following (inl cut) blank = sym (ap (λ (ls : List (List ℕ)). kept_from k (without_blank_front ls)) cut ∙ rw blank refl)
+front_step k text line following (inr cut) blank =
     ap (λ (bs : List ℕ). kept_from k (without_blank_front (lines_of bs))) cut.0
     ∙ sym (ap (λ (ls : List (List ℕ)). kept_from k (without_blank_front ls)) cut.1 ∙ rw blank refl)
 
@@ -134,19 +134,19 @@ unfolding lines_of
 front_end k text e = ap (λ (bs : List ℕ). kept_from k (without_blank_front (lines_of bs))) e
 
 -- the first line that is kept, and those after it
-pub front_here : (k : ℕ) (text line behind : List ℕ) → Cut text line behind → is_blank line ≡ false
-    → kept_from k (without_blank_front (lines_of text)) ≡ drop k line ++ further_lines k (without_blank_back (lines_of behind))
+pub front_here : (k : ℕ) (text line following : List ℕ) → Cut text line following → is_blank line ≡ false
+    → kept_from k (without_blank_front (lines_of text)) ≡ drop k line ++ further_lines k (without_blank_back (lines_of following))
 unfolding lines_of
-front_here k text line behind (inl cut) full = ap (λ (ls : List (List ℕ)). kept_from k (without_blank_front ls)) cut ∙ rw full refl
-front_here k text line behind (inr cut) full =
+front_here k text line following (inl cut) full = ap (λ (ls : List (List ℕ)). kept_from k (without_blank_front ls)) cut ∙ rw full refl
+front_here k text line following (inr cut) full =
     let here : kept_from k (without_blank_front (line ∷ [])) ≡ drop k line ++ [] = rw full refl in
     ap (λ (ls : List (List ℕ)). kept_from k (without_blank_front ls)) cut.1 ∙ here
     ∙ ap (λ (bs : List ℕ). drop k line ++ further_lines k (without_blank_back (lines_of bs))) (sym cut.0)
 
-pub under_behind : (k : ℕ) (text line behind : List ℕ) → Cut text line behind → AtMost k (common_indent (lines_of text)) → AtMost k (common_indent (lines_of behind))
+pub under_after : (k : ℕ) (text line following : List ℕ) → Cut text line following → AtMost k (common_indent (lines_of text)) → AtMost k (common_indent (lines_of following))
 unfolding lines_of
-under_behind k text line behind (inl cut) under = at_most_rest k line (lines_of behind) (subst (λ (ls : List (List ℕ)). AtMost k (common_indent ls)) cut under)
-under_behind k text line behind (inr cut) under = subst (λ (bs : List ℕ). AtMost k (common_indent (lines_of bs))) (sym cut.0) tt
+under_after k text line following (inl cut) under = at_most_rest k line (lines_of following) (subst (λ (ls : List (List ℕ)). AtMost k (common_indent ls)) cut under)
+under_after k text line following (inr cut) under = subst (λ (bs : List ℕ). AtMost k (common_indent (lines_of bs))) (sym cut.0) tt
 
 -- ---- tests of bytes
 
@@ -158,8 +158,8 @@ pub full_is : (bytes : List ℕ) → (length bytes == 0) ≡ false → 0 < lengt
 full_is [] h = absurd cc
 full_is (b ∷ bytes) h = omega arith
 
-pub fits_more : (count left behind all : ℕ) → count + left ≤ all → behind < left → (count + 1) + behind ≤ all
-fits_more count left behind all h less = omega arith
+pub fits_more : (count left following all : ℕ) → count + left ≤ all → following < left → (count + 1) + following ≤ all
+fits_more count left following all h less = omega arith
 
 pub fits_none : (n : ℕ) → 0 + n ≤ n
 fits_none n = omega arith

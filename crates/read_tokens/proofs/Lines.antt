@@ -13,20 +13,20 @@ use Rattle.read_tokens.specs.Values.{terminator_len, line_in, Cut, AtMost, furth
 abbrev pub rest_in : List ℕ → List ℕ
 rest_in text = drop (prefix_len is_in_line text) text
 
-abbrev pub behind_in : List ℕ → List ℕ
-behind_in text = drop (terminator_len (rest_in text)) (rest_in text)
+abbrev pub after_in : List ℕ → List ℕ
+after_in text = drop (terminator_len (rest_in text)) (rest_in text)
 
-cut_onto : (b : ℕ) (text line behind : List ℕ) → Cut text line behind → is_in_line b ≡ true → Cut (b ∷ text) (b ∷ line) behind
+cut_onto : (b : ℕ) (text line following : List ℕ) → Cut text line following → is_in_line b ≡ true → Cut (b ∷ text) (b ∷ line) following
 unfolding lines_of
-cut_onto b text line behind cut h = go (b == 10) (b == 13) refl refl (not-true (b == 10 || b == 13) h)
+cut_onto b text line following cut h = go (b == 10) (b == 13) refl refl (not-true (b == 10 || b == 13) h)
   where
-    both : lines_of (b ∷ text) ≡ onto_first b (lines_of text) → Cut (b ∷ text) (b ∷ line) behind
+    both : lines_of (b ∷ text) ≡ onto_first b (lines_of text) → Cut (b ∷ text) (b ∷ line) following
     both e = elim cut [
       | inl c ↦ inl (e ∙ ap (onto_first b) c)
       | inr c ↦ inr (c.0, e ∙ ap (onto_first b) c.1)
     ]
 
-    go : (s t : Bool) → (b == 10) ≡ s → (b == 13) ≡ t → (s || t) ≡ false → Cut (b ∷ text) (b ∷ line) behind
+    go : (s t : Bool) → (b == 10) ≡ s → (b == 13) ≡ t → (s || t) ≡ false → Cut (b ∷ text) (b ∷ line) following
     go true t es et neither = absurd cc
     go false true es et neither = absurd cc
     go false false es et neither = both (rw (es, et) refl)
@@ -44,18 +44,18 @@ return_cut (b ∷ text) = go (b == 10) refl
     go true e = let is : b ≡ 10 = eqb-true b 10 e in subst (λ (c : ℕ). Cut (13 ∷ c ∷ text) [] text) (sym is) (inl refl)
     go false e = inl (rw e refl)
 
-pub line_cut : (text : List ℕ) → Cut text (line_in text) (behind_in text)
+pub line_cut : (text : List ℕ) → Cut text (line_in text) (after_in text)
 unfolding lines_of
 line_cut [] = inr (refl, refl)
 line_cut (b ∷ text) = go (b == 10) (b == 13) refl refl (line_cut text)
   where
-    go : (s t : Bool) → (b == 10) ≡ s → (b == 13) ≡ t → Cut text (line_in text) (behind_in text) → Cut (b ∷ text) (line_in (b ∷ text)) (behind_in (b ∷ text))
-    go true t es et more = let is : b ≡ 10 = eqb-true b 10 es in subst (λ (c : ℕ). Cut (c ∷ text) (line_in (c ∷ text)) (behind_in (c ∷ text))) (sym is) (line_feed_cut text)
-    go false true es et more = let is : b ≡ 13 = eqb-true b 13 et in subst (λ (c : ℕ). Cut (c ∷ text) (line_in (c ∷ text)) (behind_in (c ∷ text))) (sym is) (return_cut text)
+    go : (s t : Bool) → (b == 10) ≡ s → (b == 13) ≡ t → Cut text (line_in text) (after_in text) → Cut (b ∷ text) (line_in (b ∷ text)) (after_in (b ∷ text))
+    go true t es et more = let is : b ≡ 10 = eqb-true b 10 es in subst (λ (c : ℕ). Cut (c ∷ text) (line_in (c ∷ text)) (after_in (c ∷ text))) (sym is) (line_feed_cut text)
+    go false true es et more = let is : b ≡ 13 = eqb-true b 13 et in subst (λ (c : ℕ). Cut (c ∷ text) (line_in (c ∷ text)) (after_in (c ∷ text))) (sym is) (return_cut text)
     go false false es et more =
         let in_line : is_in_line b ≡ true = rw (es, et) refl in
         let more_of : prefix_len is_in_line (b ∷ text) ≡ suc (prefix_len is_in_line text) = rw in_line (one-add (prefix_len is_in_line text)) in
-        subst (λ (n : ℕ). Cut (b ∷ text) (take n (b ∷ text)) (drop (terminator_len (drop n (b ∷ text))) (drop n (b ∷ text)))) (sym more_of) (cut_onto b text (line_in text) (behind_in text) more in_line)
+        subst (λ (n : ℕ). Cut (b ∷ text) (take n (b ∷ text)) (drop (terminator_len (drop n (b ∷ text))) (drop n (b ∷ text)))) (sym more_of) (cut_onto b text (line_in text) (after_in text) more in_line)
 
 -- ---- where it may be cut
 
@@ -269,12 +269,12 @@ value_of_lines line lines k h = go (is_blank line) refl
         ap formatted (kept_first line (map (drop k) lines) e)
         ∙ ap (λ (ls : List (List ℕ)). line ++ flat_map (λ l. 10 ∷ l) ls) (back_same k lines h)
 
-pub value_is : (raw line behind : List ℕ) → Cut raw line behind → block_string_value raw ≡ first_kept line (or_zero (common_indent (lines_of behind))) (lines_of behind)
+pub value_is : (raw line following : List ℕ) → Cut raw line following → block_string_value raw ≡ first_kept line (or_zero (common_indent (lines_of following))) (lines_of following)
 unfolding block_string_value lines_of
-value_is raw line behind (inl cut) =
+value_is raw line following (inl cut) =
     ap (λ (ls : List (List ℕ)). formatted (without_blank_back (without_blank_front (without_indent ls)))) cut
-    ∙ value_of_lines line (lines_of behind) (or_zero (common_indent (lines_of behind))) (at_most_own (common_indent (lines_of behind)))
-value_is raw line behind (inr cut) =
+    ∙ value_of_lines line (lines_of following) (or_zero (common_indent (lines_of following))) (at_most_own (common_indent (lines_of following)))
+value_is raw line following (inr cut) =
     ap (λ (ls : List (List ℕ)). formatted (without_blank_back (without_blank_front (without_indent ls)))) cut.1
     ∙ value_of_lines line [] 0 tt
     ∙ go (is_blank line)

@@ -5,7 +5,7 @@ use Rattle.std.specs.List.{prefix_len, list_all}
 use Rattle.std.specs.Char.{is_ascii_digit}
 use Rattle.std.proofs.lemmas.Bool.{and_from}
 use Rattle.read_tokens.specs.Bytes.{begins_by}
-use Rattle.read_tokens.specs.Numbers.{is_zero, is_exponent_mark, is_sign, sign_len, whole_len, digits_behind, fraction_len, exponent_len, goes_on, number_kind, number_at}
+use Rattle.read_tokens.specs.Numbers.{is_zero, is_exponent_mark, is_sign, sign_len, whole_len, digits_after, fraction_len, exponent_len, goes_on, number_kind, number_at}
 use Rattle.read_tokens.specs.declared.token.TokenKind.{TokenKind}
 use Rattle.read_tokens.specs.declared.token.TokenKind.TheVariants as k
 use Rattle.read_tokens.proofs.Choices.{some_if, some_unless, choice, bind_some, same_some}
@@ -75,9 +75,9 @@ whole_natural (d ∷ ds) n h = go (d == 48) refl (is_ascii_digit d) refl h
         })
     go false z false e h = absurd cc
 
-behind_digits : (m : ℕ) (bytes : List ℕ) (n : ℕ) → digits_behind m bytes ≡ Some n → (ds : List ℕ) × ((take n bytes ≡ take m bytes ++ ds) × Digits ds)
-unfolding digits_behind
-behind_digits m bytes n h = elim (some_if (begins_by is_ascii_digit (drop m bytes)) (m + prefix_len is_ascii_digit (drop m bytes)) n None h) [
+after_digits : (m : ℕ) (bytes : List ℕ) (n : ℕ) → digits_after m bytes ≡ Some n → (ds : List ℕ) × ((take n bytes ≡ take m bytes ++ ds) × Digits ds)
+unfolding digits_after
+after_digits m bytes n h = elim (some_if (begins_by is_ascii_digit (drop m bytes)) (m + prefix_len is_ascii_digit (drop m bytes)) n None h) [
   | inl e ↦ (
     take (prefix_len is_ascii_digit (drop m bytes)) (drop m bytes),
     (ap (λ (i : ℕ). take i bytes) (sym e.1) ∙ take-add m (prefix_len is_ascii_digit (drop m bytes)) bytes, run_digits (drop m bytes) e.0),
@@ -88,29 +88,29 @@ behind_digits m bytes n h = elim (some_if (begins_by is_ascii_digit (drop m byte
 fraction_is : (bytes : List ℕ) (n : ℕ) → fraction_len bytes ≡ Some n → (0 ≡ n) ⊎ Fraction (take n bytes)
 unfolding fraction_len
 fraction_is [] n h = inl (same_some 0 n h)
-fraction_is (b ∷ bytes) n h = elim (choice (b == 46) (digits_behind 1 (b ∷ bytes)) (Some 0) n h) [
+fraction_is (b ∷ bytes) n h = elim (choice (b == 46) (digits_after 1 (b ∷ bytes)) (Some 0) n h) [
   | inr e ↦ inl (same_some 0 n e)
   | inl e ↦
       let is : b ≡ 46 = eqb-true b 46 e.0 in
-      let parts = behind_digits 1 (b ∷ bytes) n e.1 in
+      let parts = after_digits 1 (b ∷ bytes) n e.1 in
       inr (record { digits = parts.0; is = parts.1.0 ∙ ap (λ (c : ℕ). c ∷ parts.0) is; are = parts.1.1 })
 ]
 
 exponent_is : (bytes : List ℕ) (n : ℕ) → exponent_len bytes ≡ Some n → (0 ≡ n) ⊎ Exponent (take n bytes)
 unfolding exponent_len
 exponent_is [] n h = inl (same_some 0 n h)
-exponent_is (b ∷ bytes) n h = elim (choice (is_exponent_mark b) (digits_behind (cond (begins_by is_sign bytes) 2 1) (b ∷ bytes)) (Some 0) n h) [
+exponent_is (b ∷ bytes) n h = elim (choice (is_exponent_mark b) (digits_after (cond (begins_by is_sign bytes) 2 1) (b ∷ bytes)) (Some 0) n h) [
   | inr e ↦ inl (same_some 0 n e)
   | inl e ↦ inr (go bytes (begins_by is_sign bytes) refl e.0 e.1)
 ]
   where
-    go : (bs : List ℕ) (t : Bool) → begins_by is_sign bs ≡ t → is_exponent_mark b ≡ true → digits_behind (cond t 2 1) (b ∷ bs) ≡ Some n → Exponent (take n (b ∷ bs))
+    go : (bs : List ℕ) (t : Bool) → begins_by is_sign bs ≡ t → is_exponent_mark b ≡ true → digits_after (cond t 2 1) (b ∷ bs) ≡ Some n → Exponent (take n (b ∷ bs))
     go [] true s mark h = absurd cc
     go (c ∷ bs) true s mark h =
-        let parts = behind_digits 2 (b ∷ c ∷ bs) n h in
+        let parts = after_digits 2 (b ∷ c ∷ bs) n h in
         record { mark = b; sign = c ∷ []; digits = parts.0; is = parts.1.0; marks = mark; signs = inr (c, (refl, s)); are = parts.1.1 }
     go bs false s mark h =
-        let parts = behind_digits 1 (b ∷ bs) n h in
+        let parts = after_digits 1 (b ∷ bs) n h in
         record { mark = b; sign = []; digits = parts.0; is = parts.1.0; marks = mark; signs = inl refl; are = parts.1.1 }
 
 sign_is : (bytes : List ℕ) → (take (sign_len bytes) bytes ≡ []) ⊎ (take (sign_len bytes) bytes ≡ 45 ∷ [])

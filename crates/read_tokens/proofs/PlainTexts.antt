@@ -12,7 +12,7 @@ use Rattle.read_tokens.specs.Blocks.{block_character_at, raw_value, block_value,
 use Rattle.read_tokens.specs.Values.{terminator_len, line_in, Cut, further_lines, kept_from, least_of}
 use Rattle.read_tokens.specs.Forms.{Marked}
 use Rattle.read_tokens.specs.PlainTexts.{is_space, IsPiece}
-use Rattle.read_tokens.proofs.Lines.{line_cut, line_boundary, rest_in, behind_in, value_is, front_first}
+use Rattle.read_tokens.proofs.Lines.{line_cut, line_boundary, rest_in, after_in, value_is, front_first}
 use Rattle.read_tokens.proofs.LineSteps.{common_step, none_kept, front_step, blank_value, full_value}
 use Rattle.read_tokens.proofs.Forms.{open_boundary, close_boundary}
 use Rattle.read_tokens.proofs.Values.{part_keeps, block_keeps, kept_whole}
@@ -72,8 +72,8 @@ front_full line lines full = ap (λ (t : Bool). cond t (without_blank_front line
 one_blank : (line : List ℕ) (lines : List (List ℕ)) (value : List ℕ) → is_blank line ≡ true → OneFull lines value → OneFull (line ∷ lines) value
 one_blank line lines value blank o = record { line = o.line; others = o.others; front = front_blank line lines blank ∙ o.front; blank = o.blank; is = o.is }
 
-one_behind : (line : List ℕ) (lines : List (List ℕ)) (value : List ℕ) → is_blank line ≡ true → OneFull (line ∷ lines) value → OneFull lines value
-one_behind line lines value blank o = record { line = o.line; others = o.others; front = sym (front_blank line lines blank) ∙ o.front; blank = o.blank; is = o.is }
+one_after : (line : List ℕ) (lines : List (List ℕ)) (value : List ℕ) → is_blank line ≡ true → OneFull (line ∷ lines) value → OneFull lines value
+one_after line lines value blank o = record { line = o.line; others = o.others; front = sym (front_blank line lines blank) ∙ o.front; blank = o.blank; is = o.is }
 
 one_onto : (b : ℕ) (lines : List (List ℕ)) (value : List ℕ) → is_white_space b ≡ true → OneFull lines value → OneFull (onto_first b lines) value
 one_onto b [] value white o = o
@@ -83,7 +83,7 @@ one_onto b (line ∷ lines) value white o = go (is_blank line) refl
     longer = ap (λ (t : Bool). t && is_blank line) white
 
     go : (t : Bool) → is_blank line ≡ t → OneFull ((b ∷ line) ∷ lines) value
-    go true e = one_blank (b ∷ line) lines value (longer ∙ e) (one_behind line lines value e o)
+    go true e = one_blank (b ∷ line) lines value (longer ∙ e) (one_after line lines value e o)
     go false e =
         let same : line ∷ lines ≡ o.line ∷ o.others = sym (front_full line lines e) ∙ o.front in
         let first : line ≡ o.line = cc in
@@ -107,25 +107,25 @@ one_step b text value space o = go (ends_line b text) (b == 13) refl refl
     go false true es et = o
     go false false es et = one_onto b (lines_of text) value (white_left _ _ _ _ es et space) o
 
-abbrev behind_blank : List ℕ → Type 0
-behind_blank text = list_all is_space (drop (prefix_len is_in_line text) text) ≡ true
+abbrev after_blank : List ℕ → Type 0
+after_blank text = list_all is_space (drop (prefix_len is_in_line text) text) ≡ true
 
-behind_all : (text : List ℕ) → behind_blank text → list_all is_blank (lines_of (behind_in text)) ≡ true
-behind_all text h = blank_lines (behind_in text) (all_dropped is_space (terminator_len (rest_in text)) (rest_in text) h)
+after_all : (text : List ℕ) → after_blank text → list_all is_blank (lines_of (after_in text)) ≡ true
+after_all text h = blank_lines (after_in text) (all_dropped is_space (terminator_len (rest_in text)) (rest_in text) h)
 
 no_space : (w n r : Bool) → w || (n || r) ≡ false → (w ≡ false) × (n || r ≡ false)
 no_space true n r h = absurd cc
 no_space false n r h = (refl, h)
 
-one_line : (text line behind : List ℕ) → Cut text line behind → is_blank line ≡ false → indent_of line ≡ 0 → list_all is_blank (lines_of behind) ≡ true → OneFull (lines_of text) line
-one_line text line behind (inl cut) full none blank = record {
+one_line : (text line following : List ℕ) → Cut text line following → is_blank line ≡ false → indent_of line ≡ 0 → list_all is_blank (lines_of following) ≡ true → OneFull (lines_of text) line
+one_line text line following (inl cut) full none blank = record {
   line = line;
-  others = lines_of behind;
-  front = ap without_blank_front cut ∙ front_full line (lines_of behind) full;
+  others = lines_of following;
+  front = ap without_blank_front cut ∙ front_full line (lines_of following) full;
   blank = blank;
   is = ap (λ (n : ℕ). drop n line) none;
 }
-one_line text line behind (inr cut) full none blank = record {
+one_line text line following (inr cut) full none blank = record {
   line = line;
   others = [];
   front = ap without_blank_front cut.1 ∙ front_full line [] full;
@@ -133,7 +133,7 @@ one_line text line behind (inr cut) full none blank = record {
   is = ap (λ (n : ℕ). drop n line) none;
 }
 
-one_here : (b : ℕ) (text : List ℕ) → is_space b ≡ false → behind_blank (b ∷ text) → OneFull (lines_of (b ∷ text)) (line_in (b ∷ text))
+one_here : (b : ℕ) (text : List ℕ) → is_space b ≡ false → after_blank (b ∷ text) → OneFull (lines_of (b ∷ text)) (line_in (b ∷ text))
 one_here b text h blank =
     let none = no_space (is_white_space b) (b == 10) (b == 13) h in
     let in_line : is_in_line b ≡ true = rw none.1 refl in
@@ -141,10 +141,10 @@ one_here b text h blank =
     let line : line_in (b ∷ text) ≡ b ∷ line_in text = ap (λ (n : ℕ). take n (b ∷ text)) more in
     let full : is_blank (line_in (b ∷ text)) ≡ false = ap is_blank line ∙ ap (λ (t : Bool). t && is_blank (line_in text)) none.0 in
     let indent : indent_of (line_in (b ∷ text)) ≡ 0 = ap indent_of line ∙ ap (λ (t : Bool). cond t (1 + indent_of (line_in text)) 0) none.0 in
-    one_line (b ∷ text) (line_in (b ∷ text)) (behind_in (b ∷ text)) (line_cut (b ∷ text)) full indent (behind_all (b ∷ text) blank)
+    one_line (b ∷ text) (line_in (b ∷ text)) (after_in (b ∷ text)) (line_cut (b ∷ text)) full indent (after_all (b ∷ text) blank)
 
 abbrev one_at : List ℕ → ℕ → Type 0
-one_at text n = n < length text → behind_blank (drop n text) → OneFull (lines_of text) (line_in (drop n text))
+one_at text n = n < length text → after_blank (drop n text) → OneFull (lines_of text) (line_in (drop n text))
 
 one_full : (text : List ℕ) → one_at text (prefix_len is_space text)
 one_full [] = λ within h. absurd (omega arith)
@@ -180,27 +180,27 @@ one_kept lines value o =
 -- ---- the value of a raw value with one line that is not blank
 
 -- the first line
-first_value : (raw : List ℕ) → is_blank (line_in raw) ≡ false → behind_blank raw → line_in raw ≡ block_string_value raw
+first_value : (raw : List ℕ) → is_blank (line_in raw) ≡ false → after_blank raw → line_in raw ≡ block_string_value raw
 first_value raw full h = sym (
-    value_is raw (line_in raw) (behind_in raw) (line_cut raw)
-    ∙ full_value (line_in raw) _ (lines_of (behind_in raw)) full
-    ∙ ap (λ (ls : List (List ℕ)). line_in raw ++ further_lines (or_zero (common_indent (lines_of (behind_in raw)))) ls) (none_kept (lines_of (behind_in raw)) (behind_all raw h))
+    value_is raw (line_in raw) (after_in raw) (line_cut raw)
+    ∙ full_value (line_in raw) _ (lines_of (after_in raw)) full
+    ∙ ap (λ (ls : List (List ℕ)). line_in raw ++ further_lines (or_zero (common_indent (lines_of (after_in raw)))) ls) (none_kept (lines_of (after_in raw)) (after_all raw h))
     ∙ append-nil (line_in raw))
 
 -- the indent of a blank first line makes no difference
-common_behind : (raw : List ℕ) → is_blank (line_in raw) ≡ true → common_indent (lines_of (behind_in raw)) ≡ common_indent (lines_of raw)
-common_behind raw blank =
-    sym (ap (λ (t : Bool). least_of (cond t None (Some (least (indent_of (line_in raw)) None))) (common_indent (lines_of (behind_in raw)))) blank)
-    ∙ common_step raw (line_in raw) (behind_in raw) None (line_cut raw)
+common_after : (raw : List ℕ) → is_blank (line_in raw) ≡ true → common_indent (lines_of (after_in raw)) ≡ common_indent (lines_of raw)
+common_after raw blank =
+    sym (ap (λ (t : Bool). least_of (cond t None (Some (least (indent_of (line_in raw)) None))) (common_indent (lines_of (after_in raw)))) blank)
+    ∙ common_step raw (line_in raw) (after_in raw) None (line_cut raw)
 
 -- another line
-later_value : (raw : List ℕ) → is_blank (line_in raw) ≡ true → prefix_len is_space raw < length raw → behind_blank (drop (prefix_len is_space raw) raw)
+later_value : (raw : List ℕ) → is_blank (line_in raw) ≡ true → prefix_len is_space raw < length raw → after_blank (drop (prefix_len is_space raw) raw)
     → line_in (drop (prefix_len is_space raw) raw) ≡ block_string_value raw
 later_value raw blank within h = sym (
-    value_is raw (line_in raw) (behind_in raw) (line_cut raw)
-    ∙ blank_value (line_in raw) _ (lines_of (behind_in raw)) blank
-    ∙ front_step _ raw (line_in raw) (behind_in raw) (line_cut raw) blank
-    ∙ ap (λ (n : Option ℕ). kept_from (or_zero n) (without_blank_front (lines_of raw))) (common_behind raw blank)
+    value_is raw (line_in raw) (after_in raw) (line_cut raw)
+    ∙ blank_value (line_in raw) _ (lines_of (after_in raw)) blank
+    ∙ front_step _ raw (line_in raw) (after_in raw) (line_cut raw) blank
+    ∙ ap (λ (n : Option ℕ). kept_from (or_zero n) (without_blank_front (lines_of raw))) (common_after raw blank)
     ∙ one_kept (lines_of raw) _ (one_full raw within h))
 
 -- ---- where it is in the raw value
@@ -249,8 +249,8 @@ later_at raw f n front line value utf8 =
 pub later_piece : (raw : List ℕ) (f n : ℕ) → f ≡ prefix_len is_space raw → n ≡ prefix_len is_in_line (drop f raw) → f < length raw → is_blank (line_in raw) ≡ true
     → list_all is_space (drop n (drop f raw)) ≡ true → IsUtf8 raw → IsPiece raw f (f + n) (block_string_value raw)
 later_piece raw f n front line within blank h utf8 =
-    let h' : behind_blank (drop f raw) = subst (λ (m : ℕ). list_all is_space (drop m (drop f raw)) ≡ true) line h in
-    let value = later_value raw blank (subst (λ (m : ℕ). m < length raw) front within) (subst (λ (m : ℕ). behind_blank (drop m raw)) front h') in
+    let h' : after_blank (drop f raw) = subst (λ (m : ℕ). list_all is_space (drop m (drop f raw)) ≡ true) line h in
+    let value = later_value raw blank (subst (λ (m : ℕ). m < length raw) front within) (subst (λ (m : ℕ). after_blank (drop m raw)) front h') in
     later_at raw f n (sym front) (sym line) (subst (λ (m : ℕ). line_in (drop m raw) ≡ block_string_value raw) (sym front) value) utf8
 
 -- ---- where it is in the token

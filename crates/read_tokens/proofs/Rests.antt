@@ -26,9 +26,9 @@ rest_left (suc left) at (b ∷ bytes) within =
     let within' : left ≤ length bytes = omega arith in
     rest_left left (at + 1) bytes within' ∙ ap (λ (m : ℕ). rest_from 0 m (drop left bytes)) (omega arith)
 
-behind_first : (n at b : ℕ) (bytes : List ℕ) → 0 < n → n ≤ suc (length bytes) → rest_from (n - 1) (at + 1) bytes ≡ rest_from 0 (at + n) (drop n (b ∷ bytes))
-behind_first zero at b bytes some within = absurd (omega arith)
-behind_first (suc n) at b bytes some within =
+after_first : (n at b : ℕ) (bytes : List ℕ) → 0 < n → n ≤ suc (length bytes) → rest_from (n - 1) (at + 1) bytes ≡ rest_from 0 (at + n) (drop n (b ∷ bytes))
+after_first zero at b bytes some within = absurd (omega arith)
+after_first (suc n) at b bytes some within =
     let within' : n ≤ length bytes = omega arith in
     let one : suc n - 1 ≡ n = omega arith in
     ap (λ (m : ℕ). rest_from m (at + 1) bytes) one ∙ rest_left n (at + 1) bytes within' ∙ ap (λ (m : ℕ). rest_from 0 m (drop n bytes)) (omega arith)
@@ -42,7 +42,7 @@ rest_piece at [] p found = let takes = piece_takes [] p found in let some = take
 rest_piece at (b ∷ bytes) p found =
     let takes = piece_takes (b ∷ bytes) p found in
     let within : p.length ≤ suc (length bytes) = takes.within in
-    rw found (ap (onto p at (b ∷ bytes)) (behind_first p.length at b bytes takes.some within))
+    rw found (ap (onto p at (b ∷ bytes)) (after_first p.length at b bytes takes.some within))
 
 -- ---- what is ignored
 
@@ -160,9 +160,9 @@ skip_text text at last symbol none h =
     let s = symbol_found (drop at text) symbol h in
     sym (ap (λ (i : Input). text_of i.ahead) (input_token text at last 0 s.kind symbol.1 none s.found))
 
-pub skip_behind : (text : List ℕ) (at last : ℕ) (symbol : Terminal × ℕ) → ignored_at (drop at text) ≡ None → symbol_at (drop at text) ≡ Some symbol
+pub skip_after : (text : List ℕ) (at last : ℕ) (symbol : Terminal × ℕ) → ignored_at (drop at text) ≡ None → symbol_at (drop at text) ≡ Some symbol
     → input_from (at + symbol.1) (past_ignored text (at + symbol.1)) text ≡ skipped (input_from last at text)
-skip_behind text at last symbol none h =
+skip_after text at last symbol none h =
     let s = symbol_found (drop at text) symbol h in
     let n : ℕ = symbol.1 in
     let within : n ≤ length (drop at text) = (token_ends (drop at text) (s.kind, n) s.found).ends.within in

@@ -1,7 +1,7 @@
 -- Texts and their tokens, evaluated.
 use Rattle.std.proofs.Common.{◌≡◌, ℕ, List, [], ◌∷◌, ◌++◌, codes, Some, None, refl}
 use Rattle.read_tokens.specs.Bytes.{run_len}
-use Rattle.read_tokens.specs.Numbers.{whole_len, digits_behind, fraction_len, exponent_len, number_at}
+use Rattle.read_tokens.specs.Numbers.{whole_len, digits_after, fraction_len, exponent_len, number_at}
 use Rattle.read_tokens.specs.Strings.{unicode_at, escape_at, part_len, quoted_len}
 use Rattle.read_tokens.specs.Blocks.{block_character_len, block_len}
 use Rattle.read_tokens.specs.Tokens.{ignored_at, string_at, token_at}
@@ -23,7 +23,7 @@ several : tokens_of (codes "a:-0 1.5e3 \"\"...") ≡ record {
   tokens = token t.Name (codes "a") 0 ∷ token t.Colon (codes ":") 1 ∷ token t.Int (codes "-0") 2 ∷ token t.Float (codes "1.5e3") 5 ∷ token t.String (codes "\"\"") 11 ∷ token t.Spread (codes "...") 13 ∷ [];
   ending = Ended 16;
 }
-unfolding rest_from piece_at run_len ignored_at token_at number_at whole_len digits_behind fraction_len exponent_len string_at quoted_len part_len block_len words
+unfolding rest_from piece_at run_len ignored_at token_at number_at whole_len digits_after fraction_len exponent_len string_at quoted_len part_len block_len words
 several = refl
 
 -- keywords, and the name of a location
@@ -41,22 +41,22 @@ unfolding rest_from piece_at run_len ignored_at token_at
 stuck = refl
 
 -- a character past ASCII begins no token, and may follow a number
-letter_behind : tokens_of (49 ∷ 195 ∷ 169 ∷ []) ≡ record { tokens = token t.Int (49 ∷ []) 0 ∷ []; ending = NoTokenAt 1 }
-unfolding rest_from piece_at run_len ignored_at token_at number_at whole_len digits_behind fraction_len exponent_len
-letter_behind = refl
+letter_after : tokens_of (49 ∷ 195 ∷ 169 ∷ []) ≡ record { tokens = token t.Int (49 ∷ []) 0 ∷ []; ending = NoTokenAt 1 }
+unfolding rest_from piece_at run_len ignored_at token_at number_at whole_len digits_after fraction_len exponent_len
+letter_after = refl
 
 -- ---- no tokens
 
 leading_zero : token_at (codes "01") ≡ None
-unfolding token_at number_at whole_len digits_behind fraction_len exponent_len
+unfolding token_at number_at whole_len digits_after fraction_len exponent_len
 leading_zero = refl
 
 no_fraction : token_at (codes "1.") ≡ None
-unfolding token_at number_at whole_len digits_behind fraction_len exponent_len
+unfolding token_at number_at whole_len digits_after fraction_len exponent_len
 no_fraction = refl
 
 number_and_letter : token_at (codes "1a") ≡ None
-unfolding token_at number_at whole_len digits_behind fraction_len exponent_len
+unfolding token_at number_at whole_len digits_after fraction_len exponent_len
 number_and_letter = refl
 
 two_dots : token_at (codes "..") ≡ None

@@ -41,11 +41,11 @@ replaced_left rule (suc n) (b ∷ bytes) = replaced_left rule n bytes
 -- what begins the bytes, and what follows it
 pub replaced_step : (rule : List ℕ → List ℕ × ℕ) (b : ℕ) (bytes : List ℕ) → 0 < (rule (b ∷ bytes)).1 → replaced rule 0 (b ∷ bytes) ≡ (rule (b ∷ bytes)).0 ++ replaced rule 0 (drop (rule (b ∷ bytes)).1 (b ∷ bytes))
 unfolding replaced
-replaced_step rule b bytes some = ap (λ (rest : List ℕ). (rule (b ∷ bytes)).0 ++ rest) (replaced_left rule ((rule (b ∷ bytes)).1 - 1) bytes ∙ ap (replaced rule 0) (behind (rule (b ∷ bytes)).1 some))
+replaced_step rule b bytes some = ap (λ (rest : List ℕ). (rule (b ∷ bytes)).0 ++ rest) (replaced_left rule ((rule (b ∷ bytes)).1 - 1) bytes ∙ ap (replaced rule 0) (following (rule (b ∷ bytes)).1 some))
   where
-    behind : (n : ℕ) → 0 < n → drop (n - 1) bytes ≡ drop n (b ∷ bytes)
-    behind zero h = absurd (omega arith)
-    behind (suc n) h = let one : suc n - 1 ≡ n = omega arith in ap (λ (m : ℕ). drop m bytes) one
+    following : (n : ℕ) → 0 < n → drop (n - 1) bytes ≡ drop n (b ∷ bytes)
+    following zero h = absurd (omega arith)
+    following (suc n) h = let one : suc n - 1 ≡ n = omega arith in ap (λ (m : ℕ). drop m bytes) one
 
 abbrev pub Keeps : (List ℕ → List ℕ × ℕ) → Type 0
 Keeps rule = (b : ℕ) (bytes : List ℕ) → is_plain b ≡ true → rule (b ∷ bytes) ≡ (b ∷ [], 1)

@@ -40,7 +40,7 @@ is_line_feed b = b == 10
 
 -- whether the byte, followed by these, ends a line: a line feed, or a carriage return that no line feed follows
 abbrev pub ends_line : ℕ → List ℕ → Bool
-ends_line b behind = b == 10 || (b == 13 && not (begins_by is_line_feed behind))
+ends_line b following = b == 10 || (b == 13 && not (begins_by is_line_feed following))
 
 abbrev pub onto_first : ℕ → List (List ℕ) → List (List ℕ)
 onto_first b [] = []

@@ -16,10 +16,10 @@ pub record Rest : Type 0 where
 
 -- the rest of a text, from the piece that begins it and the rest after that piece
 abbrev pub rest_by : Option Piece → ℕ → List ℕ → (ℕ → Rest) → Rest
-rest_by None at text behind = record { tokens = []; ending = NoTokenAt at }
-rest_by (Some piece) at text behind = record {
-  tokens = with_token piece.kind (take piece.length text) at (behind piece.length).tokens;
-  ending = (behind piece.length).ending;
+rest_by None at text following = record { tokens = []; ending = NoTokenAt at }
+rest_by (Some piece) at text following = record {
+  tokens = with_token piece.kind (take piece.length text) at (following piece.length).tokens;
+  ending = (following piece.length).ending;
 }
 
 -- The tokens of a text that begins at an offset, and its ending. `left` counts the bytes that are left of a piece.

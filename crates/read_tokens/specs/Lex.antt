@@ -23,10 +23,10 @@ piece_of None (Some t) = Some (record { kind = Some t.0; length = t.1 })
 unfoldable pub piece_at : List ℕ → Option Piece
 piece_at text = piece_of (ignored_at text) (token_at text)
 
--- These pieces begin the text, one after the other, and `behind` follows them.
+-- These pieces begin the text, one after the other, and `following` follows them.
 abbrev pub ArePieces : List Piece → List ℕ → List ℕ → Type 0
-ArePieces [] text behind = text ≡ behind
-ArePieces (piece ∷ pieces) text behind = (piece_at text ≡ Some piece) × ArePieces pieces (drop piece.length text) behind
+ArePieces [] text following = text ≡ following
+ArePieces (piece ∷ pieces) text following = (piece_at text ≡ Some piece) × ArePieces pieces (drop piece.length text) following
 
 -- these tokens, with the token of a piece before them, if it has one: its text and its offset are given
 abbrev pub with_token : Option TokenKind → List ℕ → ℕ → List Token → List Token
@@ -39,10 +39,10 @@ tokens_among [] text at = []
 tokens_among (piece ∷ pieces) text at =
     with_token piece.kind (take piece.length text) at (tokens_among pieces (drop piece.length text) (at + piece.length))
 
--- The text before `behind` consists of ignored pieces and tokens, each as long as its rule says, and these are the tokens.
-pub record LexesFront (text : List ℕ) (tokens : List Token) (behind : List ℕ) : Type 0 where
+-- The text before `following` consists of ignored pieces and tokens, each as long as its rule says, and these are the tokens.
+pub record LexesFront (text : List ℕ) (tokens : List Token) (following : List ℕ) : Type 0 where
   pub pieces : List Piece
-  pub are : ArePieces pieces text behind
+  pub are : ArePieces pieces text following
   pub found : tokens ≡ tokens_among pieces text 0
 
 -- The whole text consists of ignored pieces and tokens, and these are the tokens.

@@ -27,13 +27,13 @@ whole_len bytes =
     else (if begins_by is_ascii_digit bytes then Some (prefix_len is_ascii_digit bytes) else None)
 
 -- the length of this many bytes and one Digit or more after them
-unfoldable pub digits_behind : ℕ → List ℕ → Option ℕ
-digits_behind n bytes =
+unfoldable pub digits_after : ℕ → List ℕ → Option ℕ
+digits_after n bytes =
     if begins_by is_ascii_digit (drop n bytes) then Some (n + prefix_len is_ascii_digit (drop n bytes)) else None
 
 -- FractionalPart: `.` and digits; or nothing
 unfoldable pub fraction_len : List ℕ → Option ℕ
-fraction_len bytes = if begins_by is_point bytes then digits_behind 1 bytes else Some 0
+fraction_len bytes = if begins_by is_point bytes then digits_after 1 bytes else Some 0
 
 -- ExponentIndicator
 abbrev pub is_exponent_mark : ℕ → Bool
@@ -45,7 +45,7 @@ is_sign b = b == 43 || b == 45
 -- ExponentPart: an indicator, an optional sign, and digits; or nothing
 unfoldable pub exponent_len : List ℕ → Option ℕ
 exponent_len bytes =
-    if begins_by is_exponent_mark bytes then digits_behind (if begins_by is_sign (drop 1 bytes) then 2 else 1) bytes else Some 0
+    if begins_by is_exponent_mark bytes then digits_after (if begins_by is_sign (drop 1 bytes) then 2 else 1) bytes else Some 0
 
 -- what may not follow a number: a digit, `.`, a letter or `_`
 abbrev pub goes_on : ℕ → Bool

@@ -51,9 +51,9 @@ unfoldable pub escape_at : List ℕ → Option (ℕ × ℕ)
 escape_at [] = None
 escape_at (b ∷ bytes) = if b == 117 then with_len 5 (unicode_at bytes) else with_len 1 (escaped b)
 
-abbrev pub behind_mark : Option (ℕ × ℕ) → Option ℕ
-behind_mark None = None
-behind_mark (Some escape) = Some (1 + escape.1)
+abbrev pub after_mark : Option (ℕ × ℕ) → Option ℕ
+after_mark None = None
+after_mark (Some escape) = Some (1 + escape.1)
 
 -- Laxer: any Unicode scalar value, also a control character, and one above U+FFFF (section 2.1)
 -- StringCharacter: an escape, or a character other than `"`, `\` and line terminators (each of its bytes counts as one here)
@@ -61,7 +61,7 @@ unfoldable pub part_len : List ℕ → Option ℕ
 part_len [] = None
 part_len (b ∷ bytes) =
     if b == 34 || b == 10 || b == 13 then None
-    else (if b == 92 then behind_mark (escape_at bytes) else Some 1)
+    else (if b == 92 then after_mark (escape_at bytes) else Some 1)
 
 -- the length of a mark, this many bytes, and the mark again, if it is there again
 abbrev pub closed_len : List ℕ → ℕ → List ℕ → Option ℕ

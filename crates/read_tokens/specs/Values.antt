@@ -17,9 +17,9 @@ terminator_len (b ∷ bytes) = if b == 13 then return_len bytes else (if b == 10
 abbrev pub line_in : List ℕ → List ℕ
 line_in text = take (prefix_len is_in_line text) text
 
--- The lines of the text are this line and those of `behind`; or this line alone, and `behind` is empty.
+-- The lines of the text are this line and those of `following`; or this line alone, and `following` is empty.
 abbrev pub Cut : List ℕ → List ℕ → List ℕ → Type 0
-Cut text line behind = (lines_of text ≡ line ∷ lines_of behind) ⊎ ((behind ≡ []) × (lines_of text ≡ line ∷ []))
+Cut text line following = (lines_of text ≡ line ∷ lines_of following) ⊎ ((following ≡ []) × (lines_of text ≡ line ∷ []))
 
 -- the least of the indent of a line, unless it is blank, and the least indent of others
 abbrev pub least_indent : List ℕ → Option ℕ → Option ℕ

@@ -28,8 +28,8 @@ fn cut_bytes(bytes: &[u8]) -> (&[u8], &[u8])
     ensures shorter { 0 < length bytes.now → length result.1.now < length bytes.now }
 {
     let (line, rest) = bytes.split_at(line_len(bytes));
-    let (_, behind) = rest.split_at(terminator_len(rest));
-    (line, behind)
+    let (_, following) = rest.split_at(terminator_len(rest));
+    (line, following)
 }
 
 /// The first line of a text.
@@ -44,14 +44,14 @@ fn first_line(text: &str) -> &str
 
 /// What follows the terminator of the first line, which has this length.
 #[tactic(auto, using(crate::proofs::Lines::line_cut, crate::proofs::Lines::line_boundary, crate::proofs::Lines::terminator_boundary))]
-fn behind_line(text: &str, line: usize) -> &str
+fn after_line(text: &str, line: usize) -> &str
     requires { line ≡ prefix_len is_in_line text.now }
     ensures cut { spec.Cut text.now (spec.line_in text.now) result.now }
     ensures shorter { 0 < length text.now → length result.now < length text.now }
 {
     let (_, rest) = text.split_at(line);
-    let (_, behind) = rest.split_at(terminator_len(rest.as_bytes()));
-    behind
+    let (_, following) = rest.split_at(terminator_len(rest.as_bytes()));
+    following
 }
 
 fn is_white_space(byte: u8) -> bool
@@ -98,9 +98,9 @@ fn common_indent(bytes: &[u8]) -> Option<usize>
     let mut left = bytes;
     let mut common = None;
     'lines: while !left.is_empty() {
-        let (line, behind) = cut_bytes(left);
+        let (line, following) = cut_bytes(left);
         common = least_indent(line, common);
-        left = behind;
+        left = following;
     }
     common
 }
@@ -130,10 +130,10 @@ fn kept_lines(bytes: &[u8]) -> usize
     let mut count = 0;
     let mut kept = 0;
     'lines: while !left.is_empty() {
-        let (line, behind) = cut_bytes(left);
+        let (line, following) = cut_bytes(left);
         count += 1;
         kept = kept_with(line, count, kept);
-        left = behind;
+        left = following;
     }
     kept
 }
@@ -166,9 +166,9 @@ fn push_kept(out: &mut String, text: &str, indent: usize) -> Result<(), AllocErr
     let mut more = kept_lines(text.as_bytes());
     'lines: while more > 0 {
         let line = first_line(left);
-        let behind = behind_line(left, line.len());
+        let following = after_line(left, line.len());
         push_line(out, line, indent)?;
-        left = behind;
+        left = following;
         more -= 1;
     }
     Ok(())
@@ -182,12 +182,12 @@ fn push_from(out: &mut String, text: &str, indent: usize) -> Result<(), AllocErr
     let mut left = text;
     'lines: while !left.is_empty() {
         let line = first_line(left);
-        let behind = behind_line(left, line.len());
+        let following = after_line(left, line.len());
         if !is_blank(line.as_bytes()) {
             out.push_str(without_indent(line, indent))?;
-            return push_kept(out, behind, indent);
+            return push_kept(out, following, indent);
         }
-        left = behind;
+        left = following;
     }
     Ok(())
 }
@@ -197,12 +197,12 @@ pub(crate) fn push_block(out: &mut String, raw: &str) -> Result<(), AllocError>
     ensures { OnOk result (string_bytes out.new ≡ string_bytes out.old ++ blocks.block_string_value raw.now) }
 {
     let line = first_line(raw);
-    let behind = behind_line(raw, line.len());
+    let following = after_line(raw, line.len());
     // The lines are scanned several times, for the indent, the end and the text: this way no list of them is made.
-    let indent = or_zero(common_indent(behind.as_bytes()));
+    let indent = or_zero(common_indent(following.as_bytes()));
     if is_blank(line.as_bytes()) {
-        return push_from(out, behind, indent);
+        return push_from(out, following, indent);
     }
     out.push_str(line)?;
-    push_kept(out, behind, indent)
+    push_kept(out, following, indent)
 }

@@ -133,9 +133,9 @@ pub(crate) fn ignored_len(bytes: &[u8]) -> usize
     let (_, mut rest) = bytes.split_at(length);
     // Each iteration takes one piece and all ignored single bytes after it, which are counted together.
     'pieces: while let Some(piece) = ignored_at(rest) {
-        let (_, behind) = rest.split_at(piece);
-        let more = ignored_bytes_len(behind);
-        let (_, next) = behind.split_at(more);
+        let (_, following) = rest.split_at(piece);
+        let more = ignored_bytes_len(following);
+        let (_, next) = following.split_at(more);
         rest = next;
         length += piece + more;
     }

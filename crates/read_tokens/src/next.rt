@@ -33,7 +33,7 @@ pub(crate) fn token_from(text: &str, at: usize) -> Option<(TokenKind, usize)>
 }
 
 /// The text of the token that starts at a place and has this length.
-#[tactic(auto, using(crate::proofs::Ends::cut_before, crate::proofs::Ends::cut_behind, crate::proofs::Ends::token_fits))]
+#[tactic(auto, using(crate::proofs::Ends::cut_before, crate::proofs::Ends::cut_after, crate::proofs::Ends::token_fits))]
 pub(crate) fn token_text(text: &str, at: usize, length: usize) -> &str
     requires { (kind : TokenKind) × (token_at (drop at text.now) ≡ Some (kind, length)) }
     ensures { result.now ≡ take length (drop at text.now) }
@@ -42,7 +42,7 @@ pub(crate) fn token_text(text: &str, at: usize, length: usize) -> &str
 }
 
 /// The token that starts at a place of a shared text and has this length, as a part of the text.
-#[tactic(auto, using(crate::proofs::Ends::cut_before, crate::proofs::Ends::cut_behind, crate::proofs::Ends::token_fits))]
+#[tactic(auto, using(crate::proofs::Ends::cut_before, crate::proofs::Ends::cut_after, crate::proofs::Ends::token_fits))]
 pub(crate) fn token_part(shared: &RcStr, at: usize, length: usize) -> Result<TextPart, AllocError>
     requires { (kind : TokenKind) × (token_at (drop at (rc_str_bytes shared.now)) ≡ Some (kind, length)) }
     ensures { IfOk result (λ part. part_bytes part ≡ take length (drop at (rc_str_bytes shared.now))) }

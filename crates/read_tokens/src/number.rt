@@ -42,10 +42,10 @@ fn whole_len(bytes: &[u8]) -> Option<usize>
     }
 }
 
-#[tactic(auto, unfolding(crate::specs::Numbers::digits_behind))]
-fn digits_behind(n: usize, bytes: &[u8]) -> Option<usize>
+#[tactic(auto, unfolding(crate::specs::Numbers::digits_after))]
+fn digits_after(n: usize, bytes: &[u8]) -> Option<usize>
     requires { n ≤ length bytes.now }
-    ensures value { result ≡ spec.digits_behind n bytes.now }
+    ensures value { result ≡ spec.digits_after n bytes.now }
     ensures within { IfSome result (λ n. n ≤ length bytes.now) }
 {
     let rest = &bytes[n..];
@@ -61,7 +61,7 @@ fn fraction_len(bytes: &[u8]) -> Option<usize>
     ensures within { IfSome result (λ n. n ≤ length bytes.now) }
 {
     match bytes {
-        [b'.', ..] => digits_behind(1, bytes),
+        [b'.', ..] => digits_after(1, bytes),
         _ => Some(0),
     }
 }
@@ -72,8 +72,8 @@ fn exponent_len(bytes: &[u8]) -> Option<usize>
     ensures within { IfSome result (λ n. n ≤ length bytes.now) }
 {
     match bytes {
-        [b'e' | b'E', b'+' | b'-', ..] => digits_behind(2, bytes),
-        [b'e' | b'E', ..] => digits_behind(1, bytes),
+        [b'e' | b'E', b'+' | b'-', ..] => digits_after(2, bytes),
+        [b'e' | b'E', ..] => digits_after(1, bytes),
         _ => Some(0),
     }
 }

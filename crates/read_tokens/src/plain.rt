@@ -56,8 +56,8 @@ fn first_line_alone(raw: &str, length: usize) -> Option<(usize, usize)>
     requires full { blocks.is_blank (line_in raw.now) ≡ false }
     ensures { IfSome result (λ place. IsPiece raw.now place.0 place.1 (blocks.block_string_value raw.now)) }
 {
-    let (_, behind) = raw.as_bytes().split_at(length);
-    if is_space_alone(behind) {
+    let (_, following) = raw.as_bytes().split_at(length);
+    if is_space_alone(following) {
         Some((0, length))
     } else {
         None
@@ -73,8 +73,8 @@ fn later_line_alone(raw: &str) -> Option<(usize, usize)>
     let start = space_len(raw.as_bytes());
     let (_, rest) = raw.as_bytes().split_at(start);
     let length = line_len(rest);
-    let (_, behind) = rest.split_at(length);
-    if start < raw.len() && is_space_alone(behind) {
+    let (_, following) = rest.split_at(length);
+    if start < raw.len() && is_space_alone(following) {
         Some((start, start + length))
     } else {
         None

@@ -40,8 +40,8 @@ pub(crate) fn raw_value(alloc: Global, text: &str) -> Result<String, AllocError>
     let mut out = String::with_capacity(alloc, text.len())?;
     let mut rest = push_plain(&mut out, text)?;
     'characters: while !rest.is_empty() {
-        let behind = push_character(&mut out, rest)?;
-        let next = push_plain(&mut out, behind)?;
+        let following = push_character(&mut out, rest)?;
+        let next = push_plain(&mut out, following)?;
         rest = next;
     }
     Ok(out)

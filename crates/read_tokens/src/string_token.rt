@@ -131,9 +131,9 @@ fn parts_len(bytes: &[u8]) -> usize
     let mut length = plain_parts_len(bytes);
     let (_, mut rest) = bytes.split_at(length);
     'parts: while let Some(part) = part_len(rest) {
-        let (_, behind) = rest.split_at(part);
-        let plain = plain_parts_len(behind);
-        let (_, next) = behind.split_at(plain);
+        let (_, following) = rest.split_at(part);
+        let plain = plain_parts_len(following);
+        let (_, next) = following.split_at(plain);
         rest = next;
         length += part + plain;
     }
@@ -147,8 +147,8 @@ pub(crate) fn quoted_len(bytes: &[u8]) -> Option<usize>
     ensures value { result ≡ spec.quoted_len bytes.now }
     ensures within { IfSome result (λ n. (0 < n) × (n ≤ length bytes.now)) }
 {
-    let (_, behind) = bytes.split_at(1);
-    let parts = parts_len(behind);
+    let (_, following) = bytes.split_at(1);
+    let parts = parts_len(following);
     let (_, rest) = bytes.split_at(1 + parts);
     match rest {
         [b'"', ..] => Some(2 + parts),
@@ -186,9 +186,9 @@ fn block_characters_len(bytes: &[u8]) -> usize
     let mut length = plain_characters_len(bytes);
     let (_, mut rest) = bytes.split_at(length);
     'characters: while let Some(character) = block_character_len(rest) {
-        let (_, behind) = rest.split_at(character);
-        let plain = plain_characters_len(behind);
-        let (_, next) = behind.split_at(plain);
+        let (_, following) = rest.split_at(character);
+        let plain = plain_characters_len(following);
+        let (_, next) = following.split_at(plain);
         rest = next;
         length += character + plain;
     }
@@ -202,8 +202,8 @@ pub(crate) fn block_len(bytes: &[u8]) -> Option<usize>
     ensures value { result ≡ blocks.block_len bytes.now }
     ensures within { IfSome result (λ n. (0 < n) × (n ≤ length bytes.now)) }
 {
-    let (_, behind) = bytes.split_at(3);
-    let characters = block_characters_len(behind);
+    let (_, following) = bytes.split_at(3);
+    let characters = block_characters_len(following);
     let (_, rest) = bytes.split_at(3 + characters);
     match rest {
         [b'"', b'"', b'"', ..] => Some(6 + characters),

@@ -83,7 +83,7 @@ const LOCATIONS_U: &[(&str, Terminal)] = &[("UNION", Terminal::Location)];
 const LOCATIONS_V: &[(&str, Terminal)] = &[("VARIABLE_DEFINITION", Terminal::Location)];
 
 /// The symbol of the first word of the table that the text spells; `Name` if it spells none.
-#[tactic(auto, using(crate::proofs::Words::word_here, crate::proofs::Words::word_behind))]
+#[tactic(auto, using(crate::proofs::Words::word_here, crate::proofs::Words::word_after))]
 fn find_word(table: &[(&str, Terminal)], text: &[u8]) -> Terminal
     ensures { result ≡ spec.spelled (map (λ w. (w.0.now, w.1)) table.now) text.now }
 {

@@ -94,10 +94,10 @@ impl<'a> TokenCursor<'a> {
     }
 
     /// Passes over the next token and gives its text, which is empty if no token is left.
-    #[tactic(auto, using(crate::proofs::Rests::skip_text, crate::proofs::Rests::skip_behind, crate::proofs::Rests::skip_none, crate::proofs::Rests::nothing_ignored, crate::proofs::Rests::symbol_token, crate::proofs::Ends::token_fits))]
+    #[tactic(auto, using(crate::proofs::Rests::skip_text, crate::proofs::Rests::skip_after, crate::proofs::Rests::skip_none, crate::proofs::Rests::nothing_ignored, crate::proofs::Rests::symbol_token, crate::proofs::Ends::token_fits))]
     pub fn skip(&mut self) -> &'a str
         ensures text { result.now ≡ spec.text_of self.old.ahead }
-        ensures behind { self.new ≡ spec.skipped self.old }
+        ensures following { self.new ≡ spec.skipped self.old }
         ensures form { FormOf (input.next self.old) result.now }
     {
         let Some((_, length)) = self.next else {

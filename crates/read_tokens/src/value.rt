@@ -65,8 +65,8 @@ pub(crate) fn push_parts(out: &mut String, text: &str) -> Result<(), AllocError>
 {
     let mut rest = push_plain(out, text)?;
     'parts: while !rest.is_empty() {
-        let behind = push_part(out, rest)?;
-        let next = push_plain(out, behind)?;
+        let following = push_part(out, rest)?;
+        let next = push_plain(out, following)?;
         rest = next;
     }
     Ok(())

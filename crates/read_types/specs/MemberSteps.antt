@@ -10,18 +10,18 @@ use Rattle.read_tokens.specs.declared.terminal.Terminal.{Terminal}
 use Rattle.read_grammar.specs.Meaning.{Meaning}
 use Rattle.read_grammar.specs.Begins.{begins_described_name}
 use Rattle.read_grammar.specs.Kinds.{is_at, is_colon, is_directive, is_equals, is_on, is_open_paren, is_operation_type, is_repeatable, is_string}
-use Rattle.read_grammar.specs.Reading.{Parser, mark, when, try, many, some, behind, placed, ◌⊙◌, ◌<&>◌}
+use Rattle.read_grammar.specs.Reading.{Parser, mark, when, try, many, some, following, placed, ◌⊙◌, ◌<&>◌}
 use Rattle.read_grammar.specs.TypeSystemReading.{description, arguments_definition, directive_locations, input_value_definition, field_definition, enum_value_definition, root_operation_type_definition}
 use Rattle.read_grammar.specs.ValueGrammar.{constant}
 use Rattle.read_grammar.specs.ValueReading.{name, default_value, directives, type}
 
 -- the first of several with marks between them; a mark may also precede it
 abbrev pub first : {A : Type 0} → (Terminal → Bool) → Parser A → Parser A
-first is p = when is (behind is p) p
+first is p = when is (following is p) p
 
 -- those already found, and the others after them, each after a mark
 abbrev pub others : {A : Type 0} → (Terminal → Bool) → Parser A → List A → Parser (List A)
-others is p found = (λ xs. found ++ xs) <&> many is (behind is p)
+others is p found = (λ xs. found ++ xs) <&> many is (following is p)
 
 -- the beginning of a directive's definition: `directive` and `@`
 abbrev pub directive_marks : Parser (Unit {0} × Unit {0})

@@ -36,7 +36,7 @@ const LOCATIONS: [DirectiveLocation; 19] = [
 ];
 
 /// The first place of the table with this name; `DirectiveDefinition` if none has it.
-#[tactic(auto, using(crate::proofs::Places::place_here, crate::proofs::Places::place_behind))]
+#[tactic(auto, using(crate::proofs::Places::place_here, crate::proofs::Places::place_after))]
 fn find_location(table: &[DirectiveLocation], text: &str) -> DirectiveLocation
     ensures { result ≡ named_among table.now text.now }
 {
@@ -69,7 +69,7 @@ fn directive_location(tokens: &mut TokenCursor<'_>) -> Result<DirectiveLocation,
 
 /// One more place after `|`.
 fn next_location(tokens: &mut TokenCursor<'_>) -> Result<DirectiveLocation, ParseError>
-    ensures { Reads (λ x. x) (read.behind kinds.is_pipe reading.directive_location tokens.old) result tokens.new }
+    ensures { Reads (λ x. x) (read.following kinds.is_pipe reading.directive_location tokens.old) result tokens.new }
 {
     expect(tokens, Terminal::Pipe)?;
     directive_location(tokens)

@@ -17,7 +17,7 @@ use std::alloc::Global;
 
 /// One more name after a mark.
 fn next_name(tokens: &mut TokenCursor<'_>, file: FileId, mark: Terminal) -> Result<Name, ParseError>
-    ensures { Reads name_tree (read.behind (kinds.is mark) (values.name (in_file file)) tokens.old) result tokens.new }
+    ensures { Reads name_tree (read.following (kinds.is mark) (values.name (in_file file)) tokens.old) result tokens.new }
 {
     expect(tokens, mark)?;
     name(tokens, file)

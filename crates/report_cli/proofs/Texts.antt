@@ -5,7 +5,7 @@ use Rattle.std.specs.Borrow.{Bor}
 use Rattle.std.specs.Option.{unwrap_or}
 use Rattle.std.proofs.lemmas.List.{append_assoc}
 use Rattle.json.specs.Print.{quoted}
-use Rattle.report_cli.specs.Answers.{begun_text, accepted_text, refused_text, id_or_null, unread_text}
+use Rattle.report_cli.specs.Answers.{begun_text, accepted_text, refused_text, schema_accepted_text, schema_refused_text, id_or_null, unread_text}
 use Rattle.report_cli.specs.declared.tally.Tally.{Tally}
 
 -- parts, grouped from the end and from the front
@@ -42,6 +42,15 @@ accepted_made id written members = seven (codes "{\"id\":") id (codes ",\"accept
 pub refused_made : (id faults : List ℕ) (left_out : ℕ)
     → codes "{\"id\":" ++ (id ++ (codes ",\"accepted\":false,\"faults\":[" ++ (faults ++ (codes "],\"left_out\":" ++ (decimal left_out ++ codes "}\n"))))) ≡ refused_text id faults left_out
 refused_made id faults left_out = eight (codes "{\"id\":") id (codes ",\"accepted\":") (codes "false,\"faults\":[") faults (codes "],\"left_out\":") (decimal left_out) (codes "}\n")
+
+pub schema_accepted_made : (id : List ℕ) → codes "{\"id\":" ++ (id ++ codes ",\"schema\":\"accepted\"}\n") ≡ schema_accepted_text id
+schema_accepted_made id = four (codes "{\"id\":") id (codes ",\"schema\":") (codes "\"accepted\"}\n")
+
+pub schema_refused_made : (id faults : List ℕ) (left_out : ℕ)
+    → codes "{\"id\":" ++ (id ++ (codes ",\"schema\":\"refused\",\"faults\":[" ++ (faults ++ (codes "],\"left_out\":" ++ (decimal left_out ++ codes "}\n")))))
+    ≡ schema_refused_text id faults left_out
+schema_refused_made id faults left_out =
+    eight (codes "{\"id\":") id (codes ",\"schema\":") (codes "\"refused\",\"faults\":[") faults (codes "],\"left_out\":") (decimal left_out) (codes "}\n")
 
 pub wrong_made : (id : List ℕ) (number : ℕ) (why : List ℕ)
     → codes "{\"id\":" ++ (id ++ (codes ",\"accepted\":false,\"line\":" ++ (decimal number ++ (codes ",\"error\":\"" ++ (why ++ codes "\"}\n")))))

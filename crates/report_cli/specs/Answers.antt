@@ -1,9 +1,9 @@
 -- The lines that answer a batch, and the records among lines of JSON.
-use Rattle.std.specs.Prelude.{ℕ, ◌==◌, List, [], ◌++◌, codes, decimal, Option, Some, None, if◌then◌else◌}
+use Rattle.std.specs.Prelude.{ℕ, zero, suc, ◌==◌, List, [], ◌∷◌, ◌++◌, codes, decimal, Option, Some, None, if◌then◌else◌}
 use Rattle.std.specs.List.{join_by}
 use Rattle.json.specs.Print.{quoted}
 use Rattle.report_cli.specs.declared.asked.Why.{Why}
-use Rattle.report_cli.specs.declared.asked.Why.TheVariants.{NotJson, NotUtf8, NoId, WrongId, NoDocument, WrongDocument}
+use Rattle.report_cli.specs.declared.asked.Why.TheVariants.{NotJson, NotUtf8, NoId, WrongId, NoDocument, WrongDocument, Both, WrongSchema, EmptySchema, NoSchema}
 use Rattle.report_cli.specs.declared.tally.Tally.{Tally}
 use Rattle.report_cli.specs.Counts.{counted_at}
 
@@ -23,6 +23,29 @@ warnings_members warnings left_out = codes ",\"warnings\":[" ++ warnings ++ code
 abbrev pub refused_text : List ℕ → List ℕ → ℕ → List ℕ
 refused_text id faults left_out = begun_text id ++ codes "false,\"faults\":[" ++ faults ++ codes "],\"left_out\":" ++ decimal left_out ++ codes "}\n"
 
+-- the beginning of an answer to a line that opens a schema
+abbrev pub opened_text : List ℕ → List ℕ
+opened_text id = codes "{\"id\":" ++ id ++ codes ",\"schema\":"
+
+-- the answer to a schema that is accepted
+abbrev pub schema_accepted_text : List ℕ → List ℕ
+schema_accepted_text id = opened_text id ++ codes "\"accepted\"}\n"
+
+-- the answer to a schema that is refused: its faults, as JSON, and how many more are left out
+abbrev pub schema_refused_text : List ℕ → List ℕ → ℕ → List ℕ
+schema_refused_text id faults left_out = opened_text id ++ codes "\"refused\",\"faults\":[" ++ faults ++ codes "],\"left_out\":" ++ decimal left_out ++ codes "}\n"
+
+-- the path of the text of such a schema with this index, and those of the texts before it; one text has no index
+abbrev pub schema_path : ℕ → List ℕ
+schema_path index = codes "schema[" ++ decimal index ++ codes "]"
+
+abbrev pub schema_paths_before : ℕ → List (List ℕ)
+schema_paths_before zero = []
+schema_paths_before (suc n) = schema_paths_before n ++ schema_path n ∷ []
+
+abbrev pub schema_paths : ℕ → List (List ℕ)
+schema_paths count = if count == 1 then codes "schema" ∷ [] else schema_paths_before count
+
 -- why a line asks for nothing that can be done
 abbrev pub why_words : Why → List ℕ
 why_words NotJson = codes "the line is not JSON"
@@ -31,6 +54,10 @@ why_words NoId = codes "there is no `id`"
 why_words WrongId = codes "the `id` is neither a string nor a whole number"
 why_words NoDocument = codes "there is no `document`"
 why_words WrongDocument = codes "the `document` is not a string"
+why_words Both = codes "there is both a `document` and a `schema`"
+why_words WrongSchema = codes "the `schema` is not an array of strings"
+why_words EmptySchema = codes "the `schema` is an empty array"
+why_words NoSchema = codes "no schema is open: the last one was refused"
 
 abbrev pub id_or_null : Option (List ℕ) → List ℕ
 id_or_null None = codes "null"

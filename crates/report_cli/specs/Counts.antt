@@ -30,7 +30,7 @@ denied_at Deny warnings = warnings
 abbrev pub ending : ℕ → List ℕ
 ending number = if number == 1 then [] else codes "s"
 
--- how many documents are accepted: all that were read, if none is refused
+-- how many documents are accepted: all that were read, if neither one nor a schema is refused
 abbrev pub accepted_words : ℕ → List ℕ
 accepted_words accepted = decimal accepted ++ codes " document" ++ ending accepted ++ codes " accepted"
 
@@ -39,8 +39,12 @@ abbrev pub counts_words : Tally → List ℕ
 counts_words t =
     if t.is_of_schema && t.faults == 0 then codes "schema accepted"
     else if t.is_of_schema then decimal t.faults ++ codes " fault" ++ ending t.faults ++ codes " in the schema"
-    else if t.refused == 0 then accepted_words (t.documents - t.unread)
+    else if t.refused == 0 && t.refused_schemas == 0 then accepted_words (t.documents - t.unread)
     else decimal t.faults ++ codes " fault" ++ ending t.faults ++ codes " in " ++ decimal t.refused ++ codes " of " ++ decimal t.documents ++ codes " document" ++ ending t.documents
+
+-- how many schemas of a batch have faults, if one has
+abbrev pub schemas_words : ℕ → List ℕ
+schemas_words schemas = if schemas == 0 then [] else codes " and " ++ decimal schemas ++ codes " schema" ++ ending schemas
 
 -- how many warnings there are, if there is one
 abbrev pub warnings_words : ℕ → List ℕ
@@ -50,6 +54,7 @@ warnings_words warnings = if warnings == 0 then [] else codes ", " ++ decimal wa
 abbrev pub unread_words : ℕ → List ℕ
 unread_words unread = if nat_lt 0 unread then codes ", " ++ decimal unread ++ codes " not read" else []
 
--- `3 faults in 2 of 40 documents` or `40 documents accepted`, how many warnings there are, and how many were not read
+-- `3 faults in 2 of 40 documents` or `40 documents accepted`, how many schemas have faults and how many warnings there are, and how many
+-- documents were not read
 abbrev pub words_of : Tally → List ℕ
-words_of t = counts_words t ++ warnings_words t.warnings ++ unread_words t.unread
+words_of t = counts_words t ++ schemas_words t.refused_schemas ++ warnings_words t.warnings ++ unread_words t.unread

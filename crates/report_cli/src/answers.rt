@@ -1,7 +1,7 @@
 //! The lines that answer a batch, and the records among lines of JSON.
 
 ghost use Rattle.std.specs.Prelude.{◌≡◌, IfOk, map, option_map, string_bytes};
-ghost use Rattle.report_cli.specs.Answers.{accepted_text, warnings_members, count_member, refused_text, wrong_text, schema_text, paths_text, document_text, unread_text, summary_text};
+ghost use Rattle.report_cli.specs.Answers.{accepted_text, warnings_members, count_member, refused_text, schema_accepted_text, schema_refused_text, schema_path, schema_paths, wrong_text, schema_text, paths_text, document_text, unread_text, summary_text};
 
 use crate::asked::Why;
 use crate::tally::Tally;
@@ -48,6 +48,50 @@ pub(crate) fn refused_line(
     )
 }
 
+/// The answer to a schema that is accepted: `{"id":ID,"schema":"accepted"}`. The id is JSON.
+pub(crate) fn schema_accepted_line(alloc: Global, id: &str) -> Result<String, AllocError>
+    ensures { IfOk result (λ line. string_bytes line ≡ schema_accepted_text id.now) }
+{
+    format!(in alloc; "{{\"id\":{id},\"schema\":\"accepted\"}}\n")
+}
+
+/// The answer to a schema that is refused: `{"id":ID,"schema":"refused","faults":[FAULTS],"left_out":N}`. The id is JSON, and so
+/// are the faults, with a comma between each two; N more are left out.
+pub(crate) fn schema_refused_line(
+    alloc: Global,
+    id: &str,
+    faults: &str,
+    left_out: usize,
+) -> Result<String, AllocError>
+    ensures { IfOk result (λ line. string_bytes line ≡ schema_refused_text id.now faults.now left_out) }
+{
+    format!(in alloc;
+        "{{\"id\":{id},\"schema\":\"refused\",\"faults\":[{faults}],\"left_out\":{left_out}}}\n"
+    )
+}
+
+/// The paths of so many texts of a schema that a line opens: `schema` of one, else `schema[0]`, `schema[1]` and so on.
+pub fn schema_paths(alloc: Global, count: usize) -> Result<Vec<String>, AllocError>
+    ensures { IfOk result (λ paths. map string_bytes paths.items ≡ schema_paths count) }
+{
+    let mut paths = Vec::new(alloc);
+    if count == 1 {
+        paths.push(String::from_str(alloc, "schema")?)?;
+        return Ok(paths);
+    }
+    for index in 0..count {
+        paths.push(schema_path(alloc, index)?)?;
+    }
+    Ok(paths)
+}
+
+/// The path of the text with this index, of several.
+fn schema_path(alloc: Global, index: usize) -> Result<String, AllocError>
+    ensures { IfOk result (λ path. string_bytes path ≡ schema_path index) }
+{
+    format!(in alloc; "schema[{index}]")
+}
+
 /// The answer to a line that asks for nothing that can be done: `{"id":ID,"accepted":false,"line":N,"error":WHY}`. The id is JSON, and
 /// null if there is none; the lines are counted from 1.
 pub(crate) fn wrong_line(
@@ -66,6 +110,10 @@ pub(crate) fn wrong_line(
         Why::WrongId => "the `id` is neither a string nor a whole number",
         Why::NoDocument => "there is no `document`",
         Why::WrongDocument => "the `document` is not a string",
+        Why::Both => "there is both a `document` and a `schema`",
+        Why::WrongSchema => "the `schema` is not an array of strings",
+        Why::EmptySchema => "the `schema` is an empty array",
+        Why::NoSchema => "no schema is open: the last one was refused",
     };
     format!(in alloc; "{{\"id\":{id},\"accepted\":false,\"line\":{number},\"error\":\"{why}\"}}\n")
 }

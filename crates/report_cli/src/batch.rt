@@ -1,6 +1,9 @@
 //! The lines of a batch, and the answers to them.
 
-use crate::answers::{accepted_line, refused_line, warnings_members, wrong_line};
+use crate::answers::{
+    accepted_line, refused_line, schema_accepted_line, schema_refused_line, warnings_members,
+    wrong_line,
+};
 use crate::asked::{Asked, Why, request_of};
 use crate::files::{Stop, put, reason_of, unread};
 use crate::settings::{LintLevel, Settings};
@@ -79,12 +82,43 @@ pub fn answer_refused(
     tally: &mut Tally,
 ) -> Result<(), Stop> {
     tally.add_refused();
+    let (faults, left_out) = faults_of(rt, settings, entries, tally)?;
+    let line = refused_line(rt.alloc(), id, &faults, left_out)?;
+    put(rt, &line)
+}
+
+/// Answers that a schema is accepted.
+pub fn answer_schema_accepted(rt: &HostRuntime, id: &str) -> Result<(), Stop> {
+    let line = schema_accepted_line(rt.alloc(), id)?;
+    put(rt, &line)
+}
+
+/// Answers that a schema is refused, with as many of its faults as are asked for.
+pub fn answer_schema_refused(
+    rt: &HostRuntime,
+    settings: &Settings,
+    id: &str,
+    entries: &[Entry],
+    tally: &mut Tally,
+) -> Result<(), Stop> {
+    tally.add_refused_schema();
+    let (faults, left_out) = faults_of(rt, settings, entries, tally)?;
+    let line = schema_refused_line(rt.alloc(), id, &faults, left_out)?;
+    put(rt, &line)
+}
+
+/// Counts the faults. As many as are asked for, as JSON, and how many more there are.
+fn faults_of(
+    rt: &HostRuntime,
+    settings: &Settings,
+    entries: &[Entry],
+    tally: &mut Tally,
+) -> Result<(String, usize), AllocError> {
     tally.add_told(Severity::Error, entries.len());
     tell_cut(rt, settings, Severity::Error, entries.len());
     let (told, left_out) = entries.split_at(entries.len().min(settings.max_faults));
     let faults = objects(rt.alloc(), told)?;
-    let line = refused_line(rt.alloc(), id, &faults, left_out.len())?;
-    put(rt, &line)
+    Ok((faults, left_out.len()))
 }
 
 /// The entries as JSON, with a comma between each two.

@@ -122,7 +122,9 @@ fn batch_option<'a>(alloc: Global) -> Result<Arg<'a>, AllocError> {
     Arg::new(alloc, "batch")
         .long("batch")
         .action(ArgAction::SetTrue)
-        .help("Answers each line {\"id\": .., \"document\": ..} of standard input by a line")
+        .help(
+            "Answers each line {\"id\": .., \"document\": ..} of standard input by a line; {\"id\": .., \"schema\": [..]} opens another schema",
+        )
         .conflicts_with("DOCUMENT")?
         .conflicts_with("format")
 }

@@ -21,8 +21,12 @@ mod settings;
 mod tally;
 mod telling;
 
-pub use asked::{Asked, Request, Why, request_of};
-pub use batch::{answer_accepted, answer_refused, answer_wrong, read_request};
+pub use answers::schema_paths;
+pub use asked::{Asked, Request, SchemaRequest, Why, request_of};
+pub use batch::{
+    answer_accepted, answer_refused, answer_schema_accepted, answer_schema_refused, answer_wrong,
+    read_request,
+};
 pub use ends::{read_settings, read_words, tell_end};
 pub use files::{Stop, read_document, read_schema};
 pub use folding::{Printed, folded};

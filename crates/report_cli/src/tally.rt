@@ -1,7 +1,7 @@
 //! How much was found.
 
 ghost use Rattle.std.specs.Prelude.{◌≡◌, ◌+◌, ◌++◌, ◌<◌, true, IfOk, OnOk, string_bytes};
-ghost use Rattle.report_cli.specs.Counts.{added, with_told, denied_at, ending, counts_words, warnings_words, words_of};
+ghost use Rattle.report_cli.specs.Counts.{added, with_told, denied_at, ending, counts_words, schemas_words, warnings_words, words_of};
 
 use crate::settings::LintLevel;
 use report_forms::Severity;
@@ -23,7 +23,9 @@ pub struct Tally {
     pub refused: usize,
     /// How many of them could not be read.
     pub unread: usize,
-    /// How many faults are told of them, or of the schema.
+    /// How many schemas of a batch are refused.
+    pub refused_schemas: usize,
+    /// How many faults are told of them, or of schemas.
     pub faults: usize,
     /// How many warnings are told of the others.
     pub warnings: usize,
@@ -36,12 +38,13 @@ pub struct Tally {
 impl Tally {
     /// Nothing is found yet.
     pub fn new(lints: LintLevel, is_of_schema: bool) -> Tally
-        ensures { result ≡ record { documents = 0; refused = 0; unread = 0; faults = 0; warnings = 0; lints = lints; is_of_schema = is_of_schema } }
+        ensures { result ≡ record { documents = 0; refused = 0; unread = 0; refused_schemas = 0; faults = 0; warnings = 0; lints = lints; is_of_schema = is_of_schema } }
     {
         Tally {
             documents: 0,
             refused: 0,
             unread: 0,
+            refused_schemas: 0,
             faults: 0,
             warnings: 0,
             lints,
@@ -82,6 +85,13 @@ impl Tally {
         self.unread = self.unread.saturating_add(1);
     }
 
+    /// Adds a schema of a batch that is refused, after which another may be opened.
+    pub fn add_refused_schema(&mut self)
+        ensures { self.new ≡ record self.old { refused_schemas = added self.old.refused_schemas 1 } }
+    {
+        self.refused_schemas = self.refused_schemas.saturating_add(1);
+    }
+
     /// Adds that the schema is refused, after which no document is judged.
     pub fn add_schema(&mut self)
         ensures { self.new ≡ record self.old { is_of_schema = true } }
@@ -105,12 +115,13 @@ impl Tally {
     }
 
     /// How much was found, in words: `3 faults in 2 of 40 documents`, or `40 documents accepted`, and the
-    /// warnings and unread documents, if there are any.
+    /// refused schemas of a batch, the warnings and unread documents, if there are any.
     pub fn words(self, alloc: Global) -> Result<String, AllocError>
         ensures { IfOk result (λ words. string_bytes words ≡ words_of self) }
     {
         let mut words = String::new(alloc);
         self.push_counts(&mut words)?;
+        self.push_schemas(&mut words)?;
         self.push_warnings(&mut words)?;
         if self.unread > 0 {
             write!(words, ", {} not read", self.unread)?;
@@ -126,6 +137,7 @@ impl Tally {
             documents,
             refused,
             unread,
+            refused_schemas,
             faults,
             is_of_schema,
             ..
@@ -137,7 +149,7 @@ impl Tally {
         if is_of_schema {
             return write!(out, "{faults} fault{ending} in the schema");
         }
-        if refused == 0 {
+        if refused == 0 && refused_schemas == 0 {
             let accepted = documents.saturating_sub(unread);
             let ending = plural(accepted);
             return write!(out, "{accepted} document{ending} accepted");
@@ -147,6 +159,18 @@ impl Tally {
             out,
             "{faults} fault{ending} in {refused} of {documents} document{ending_of_documents}"
         )
+    }
+
+    /// Adds how many schemas have faults too, if one has.
+    fn push_schemas(self, out: &mut String) -> Result<(), AllocError>
+        ensures { OnOk result (string_bytes out.new ≡ string_bytes out.old ++ schemas_words self.refused_schemas) }
+    {
+        let schemas = self.refused_schemas;
+        if schemas == 0 {
+            return Ok(());
+        }
+        let ending = plural(schemas);
+        write!(out, " and {schemas} schema{ending}")
     }
 
     /// Adds how many warnings there are, if there is one.

@@ -69,7 +69,7 @@ starts-le text (suc n) k d less = elim (ends_line text (suc n)) as (λ b. k < le
 pub record Extend (text : List ℕ) (n m : ℕ) : Type 0 where
   pub rest : List ℕ
   pub split : starts_up_to text m ≡ starts_up_to text n ++ rest
-  pub behind : (k d : ℕ) → k < length rest → n < get_or rest k d
+  pub following : (k d : ℕ) → k < length rest → n < get_or rest k d
 
 starts-append_nil : (xs : List ℕ) → xs ≡ xs ++ []
 starts-append_nil [] = refl
@@ -79,14 +79,14 @@ pub starts-extend : (text : List ℕ) (n m : ℕ) → n ≤ m → Extend text n 
 starts-extend text n zero le = let e : zero ≡ n = omega arith in record {
   rest = [];
   split = ap (λ k. starts_up_to text k) e ∙ starts-append_nil _;
-  behind = λ k d less. absurd (omega arith);
+  following = λ k d less. absurd (omega arith);
 }
 starts-extend text n (suc m) le = elim (leb_tells n m) [
   | inl h ↦ grow h.1 (starts-extend text n m h.1)
   | inr h ↦ let e : suc m ≡ n = omega arith in record {
     rest = [];
     split = ap (λ k. starts_up_to text k) e ∙ starts-append_nil _;
-    behind = λ k d less. absurd (omega arith);
+    following = λ k d less. absurd (omega arith);
   }
 ]
   where
@@ -95,15 +95,15 @@ starts-extend text n (suc m) le = elim (leb_tells n m) [
       | true ↦ λ e. record {
         rest = ih.rest ++ suc m ∷ [];
         split = ap (λ b. cond b (starts_up_to text m ++ suc m ∷ []) (starts_up_to text m)) e ∙ ap (λ l. l ++ suc m ∷ []) ih.split ∙ append_assoc (starts_up_to text n) ih.rest (suc m ∷ []);
-        behind = λ k d less. elim (leb_tells (length ih.rest) k) [
+        following = λ k d less. elim (leb_tells (length ih.rest) k) [
           | inl h ↦ let at : length ih.rest ≡ k = omega (arith, h.1, less, length-append ih.rest (suc m ∷ [])) in rw (get_or_at ih.rest (suc m) [] d k at) (omega arith)
-          | inr h ↦ rw (get_or_append_left ih.rest (suc m ∷ []) d k h.1) (ih.behind k d h.1)
+          | inr h ↦ rw (get_or_append_left ih.rest (suc m ∷ []) d k h.1) (ih.following k d h.1)
         ];
       }
       | false ↦ λ e. record {
         rest = ih.rest;
         split = ap (λ b. cond b (starts_up_to text m ++ suc m ∷ []) (starts_up_to text m)) e ∙ ih.split;
-        behind = ih.behind;
+        following = ih.following;
       }
     ] refl
 
@@ -114,7 +114,7 @@ starts-parted text place within i j d le less passes =
     let all = starts_up_to text (length text) in
     let early = starts_up_to text place in
     let below : j < length early = elim (leb_tells (length early) j) [
-      | inl h ↦ absurd (omega (arith, e.behind (j - length early) d (omega (arith, h.1, less, ap length e.split, length-append early e.rest)), behind_at e.rest e.split h.1, told passes))
+      | inl h ↦ absurd (omega (arith, e.following (j - length early) d (omega (arith, h.1, less, ap length e.split, length-append early e.rest)), after_at e.rest e.split h.1, told passes))
       | inr h ↦ h.1
     ] in
     tells (subst (λ (l : List ℕ). get_or l i d ≤ place) (sym e.split) (rw (get_or_append_left early e.rest d i (omega arith)) (starts-le text place i d (omega arith))))
@@ -125,8 +125,8 @@ starts-parted text place within i j d le less passes =
     tells : get_or (starts_up_to text (length text)) i d ≤ place → nat_le (get_or (starts_up_to text (length text)) i d) place ≡ true
     tells h = grind (arith, nat_tests)
 
-    behind_at : (rest : List ℕ) → starts_up_to text (length text) ≡ starts_up_to text place ++ rest → length (starts_up_to text place) ≤ j → get_or (starts_up_to text (length text)) j d ≡ get_or rest (j - length (starts_up_to text place)) d
-    behind_at rest split h = ap (λ l. get_or l j d) split ∙ get_or-append_right (starts_up_to text place) rest (length (starts_up_to text place)) j d refl h
+    after_at : (rest : List ℕ) → starts_up_to text (length text) ≡ starts_up_to text place ++ rest → length (starts_up_to text place) ≤ j → get_or (starts_up_to text (length text)) j d ≡ get_or rest (j - length (starts_up_to text place)) d
+    after_at rest split h = ap (λ l. get_or l j d) split ∙ get_or-append_right (starts_up_to text place) rest (length (starts_up_to text place)) j d refl h
 
 -- what a search finds: the number of the place's line, and where that begins
 pub record FoundLine (text : List ℕ) (place i : ℕ) : Type 0 where
@@ -154,7 +154,7 @@ found_line text place i within short point =
       | inl h ↦ h.1
       | inr h ↦
           let next : get_or all (length early) 0 ≡ get_or parts.rest 0 0 = ap (λ l. get_or l (length early) 0) parts.split ∙ at_seam early parts.rest in
-          absurd (omega (arith, next, parts.behind 0 0 (omega arith), accepted (get_or all (length early) 0) place (point.0 (length early) 0 (omega arith) h.1)))
+          absurd (omega (arith, next, parts.following 0 0 (omega arith), accepted (get_or all (length early) 0) place (point.0 (length early) 0 (omega arith) h.1)))
     ] in
     let at : i ≡ length early = omega arith in
     record {

@@ -35,13 +35,13 @@ big n le = elim (leb_tells 32 n) [ inl h ↦ h.0 | inr h ↦ absurd (omega (arit
 glyph : (d : ℕ) → nat_le 32 (digit_glyph false d) ≡ true
 glyph d = elim (nat_lt d 10) as (λ b. nat_le 32 (cond b (48 + d) (87 + d)) ≡ true) [ true ↦ big (48 + d) (omega arith) | false ↦ big (87 + d) (omega arith) ]
 
-one_line-digits : (k n : ℕ) (behind : List ℕ) → one_line behind ≡ true → one_line (digits_onto k 10 false n behind) ≡ true
-one_line-digits zero n behind h = h
-one_line-digits (suc k) n behind h =
-    let more : one_line (digit_glyph false (n % 10) ∷ behind) ≡ true = both (nat_le 32 (digit_glyph false (n % 10))) (one_line behind) (glyph (n % 10)) h in
-    elim (n / 10 == 0) as (λ b. one_line (cond b (digit_glyph false (n % 10) ∷ behind) (digits_onto k 10 false (n / 10) (digit_glyph false (n % 10) ∷ behind))) ≡ true) [
+one_line-digits : (k n : ℕ) (following : List ℕ) → one_line following ≡ true → one_line (digits_onto k 10 false n following) ≡ true
+one_line-digits zero n following h = h
+one_line-digits (suc k) n following h =
+    let more : one_line (digit_glyph false (n % 10) ∷ following) ≡ true = both (nat_le 32 (digit_glyph false (n % 10))) (one_line following) (glyph (n % 10)) h in
+    elim (n / 10 == 0) as (λ b. one_line (cond b (digit_glyph false (n % 10) ∷ following) (digits_onto k 10 false (n / 10) (digit_glyph false (n % 10) ∷ following))) ≡ true) [
       | true ↦ more
-      | false ↦ one_line-digits k (n / 10) (digit_glyph false (n % 10) ∷ behind) more
+      | false ↦ one_line-digits k (n / 10) (digit_glyph false (n % 10) ∷ following) more
     ]
 
 pub one_line-decimal : (n : ℕ) → one_line (decimal n) ≡ true

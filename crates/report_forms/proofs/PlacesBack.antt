@@ -91,9 +91,9 @@ step_on text start column reached now place way not_yet on counted = record {
 }
 
 -- where a line ends no later place is in it
-pub none_behind : (text : List ℕ) (start column reached place : ℕ) → IsOnTheWay text start column reached place → reached ≢ column → start ≤ place → ends_line text (suc place) ≡ true
+pub none_following : (text : List ℕ) (start column reached place : ℕ) → IsOnTheWay text start column reached place → reached ≢ column → start ≤ place → ends_line text (suc place) ≡ true
     → (k : ℕ) → ¬ IsColumn text start column k
-none_behind text start column reached place way not_yet from off k is = elim (leb_tells (suc k) place) [
+none_following text start column reached place way not_yet from off k is = elim (leb_tells (suc k) place) [
   | inl h ↦ way.passed k (omega (arith, h.1)) is
   | inr h ↦ elim (leb_tells k place) [
     | inl i ↦ let e : k ≡ place = omega (arith, h.1, i.1) in not_yet (way.counted ∙ ap (λ (p : ℕ). 1 + how_many (ends_character text) start p) (sym e) ∙ sym is.counted)

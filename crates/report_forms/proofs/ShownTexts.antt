@@ -6,7 +6,7 @@ use Rattle.std.proofs.lemmas.List.Elements.{All-append}
 use Rattle.std.proofs.lemmas.Str.{encodes-append, encodes_same, encodes-chars}
 use Rattle.std.specs.Prelude.{nat_lt, ◌==◌}
 use Rattle.std.specs.Str.{chars, encode_utf8_all, IsUtf8}
-use Rattle.report_forms.specs.Shown.{is_control, stand_in, shown_character, HasNoControl}
+use Rattle.report_forms.specs.Shown.{is_control, visible_character, shown_character, HasNoControl}
 
 -- one more character
 pub shown_more : (out old ys : List ℕ) (c : ℕ) → out ≡ old ++ encode_utf8_all (shown_character c) → old ≡ encode_utf8_all (flat_map shown_character ys)
@@ -19,8 +19,8 @@ shown_more out old ys c e h =
 picture : (c : ℕ) → c < 32 → is_control (9216 + c) ≡ false
 picture c less = grind (arith, nat_tests)
 
-stands_in : (c : ℕ) → is_control (stand_in c) ≡ false
-stands_in c = elim (is_control c) as (λ b. is_control c ≡ b → is_control (cond b (cond (nat_lt c 32) (9216 + c) (cond (c == 127) 9249 0xFFFD)) c) ≡ false) [
+lies_in : (c : ℕ) → is_control (visible_character c) ≡ false
+lies_in c = elim (is_control c) as (λ b. is_control c ≡ b → is_control (cond b (cond (nat_lt c 32) (9216 + c) (cond (c == 127) 9249 0xFFFD)) c) ≡ false) [
   | true ↦ λ e. elim (leb_tells (suc c) 32) [
     | inl h ↦ ap (λ b. is_control (cond b (9216 + c) (cond (c == 127) 9249 0xFFFD))) h.0 ∙ picture c (omega (arith, h.1))
     | inr h ↦ ap (λ b. is_control (cond b (9216 + c) (cond (c == 127) 9249 0xFFFD))) h.0 ∙ either (c == 127)
@@ -42,9 +42,9 @@ spaces = All-append (λ c. is_control c ≡ false) (32 ∷ []) (32 ∷ 32 ∷ 32
     (All-append (λ c. is_control c ≡ false) (32 ∷ []) (32 ∷ []) (one 32 refl) (one 32 refl)))
 
 character_shown : (c : ℕ) → All (λ c. is_control c ≡ false) (shown_character c)
-character_shown c = elim (c == 9) as (λ b. All (λ c. is_control c ≡ false) (cond b (32 ∷ 32 ∷ 32 ∷ 32 ∷ []) (stand_in c ∷ []))) [
+character_shown c = elim (c == 9) as (λ b. All (λ c. is_control c ≡ false) (cond b (32 ∷ 32 ∷ 32 ∷ 32 ∷ []) (visible_character c ∷ []))) [
   | true ↦ spaces
-  | false ↦ one (stand_in c) (stands_in c)
+  | false ↦ one (visible_character c) (lies_in c)
 ]
 
 none_at_all : All (λ (c : ℕ). is_control c ≡ false) []

@@ -26,11 +26,11 @@ nine : (a b c d e f g h i : List ℕ) → a ++ (b ++ (c ++ (d ++ (e ++ (f ++ (g 
 nine a b c d e f g h i = three a b (c ++ (d ++ (e ++ (f ++ (g ++ (h ++ i)))))) ∙ eight (a ++ b) c d e f g h i
 
 -- seven parts, and eight, after a text
-pub seven_behind : (a b c d e f g h : List ℕ) → ((((((a ++ b) ++ c) ++ d) ++ e) ++ f) ++ g) ++ h ≡ a ++ ((((((b ++ c) ++ d) ++ e) ++ f) ++ g) ++ h)
-seven_behind a b c d e f g h = sym (eight a b c d e f g h) ∙ ap (λ l. a ++ l) (seven b c d e f g h)
+pub seven_after : (a b c d e f g h : List ℕ) → ((((((a ++ b) ++ c) ++ d) ++ e) ++ f) ++ g) ++ h ≡ a ++ ((((((b ++ c) ++ d) ++ e) ++ f) ++ g) ++ h)
+seven_after a b c d e f g h = sym (eight a b c d e f g h) ∙ ap (λ l. a ++ l) (seven b c d e f g h)
 
-pub eight_behind : (a b c d e f g h i : List ℕ) → (((((((a ++ b) ++ c) ++ d) ++ e) ++ f) ++ g) ++ h) ++ i ≡ a ++ (((((((b ++ c) ++ d) ++ e) ++ f) ++ g) ++ h) ++ i)
-eight_behind a b c d e f g h i = sym (nine a b c d e f g h i) ∙ ap (λ l. a ++ l) (eight b c d e f g h i)
+pub eight_after : (a b c d e f g h i : List ℕ) → (((((((a ++ b) ++ c) ++ d) ++ e) ++ f) ++ g) ++ h) ++ i ≡ a ++ (((((((b ++ c) ++ d) ++ e) ++ f) ++ g) ++ h) ++ i)
+eight_after a b c d e f g h i = sym (nine a b c d e f g h i) ∙ ap (λ l. a ++ l) (eight b c d e f g h i)
 
 -- three parts, one after another
 pub between : (old a b c first second : List ℕ) → first ≡ old ++ a → second ≡ first ++ b → second ++ c ≡ old ++ (a ++ b ++ c)

@@ -10,12 +10,12 @@ abbrev pub is_control : ℕ → Bool
 is_control c = nat_lt c 32 || is_in_range 127 159 c || c == 0x061C || is_in_range 0x200E 0x200F c || is_in_range 0x2028 0x202E c || is_in_range 0x2066 0x2069 c
 
 -- the character that is shown for one that is no tab: for a control of C0 or DELETE its picture, for any other control the replacement character
-abbrev pub stand_in : ℕ → ℕ
-stand_in c = if is_control c then (if nat_lt c 32 then 9216 + c else if c == 127 then 9249 else 0xFFFD) else c
+abbrev pub visible_character : ℕ → ℕ
+visible_character c = if is_control c then (if nat_lt c 32 then 9216 + c else if c == 127 then 9249 else 0xFFFD) else c
 
 -- a tab is shown as four spaces
 abbrev pub shown_character : ℕ → List ℕ
-shown_character c = if c == 9 then 32 ∷ 32 ∷ 32 ∷ 32 ∷ [] else stand_in c ∷ []
+shown_character c = if c == 9 then 32 ∷ 32 ∷ 32 ∷ 32 ∷ [] else visible_character c ∷ []
 
 -- what is shown of a text
 abbrev pub shown_text : List ℕ → List ℕ

@@ -25,10 +25,10 @@ pub fn excerpt_at(
     let text = source.lines.text();
     // the whole text counts as before the place, if it can't be cut there
     let (head, rest) = text.split_at_checked(span.offset).unwrap_or((text, ""));
-    let (inside, behind) = rest.split_at_checked(span.length).unwrap_or((rest, ""));
+    let (inside, following) = rest.split_at_checked(span.length).unwrap_or((rest, ""));
     let marked = first_of_line(inside);
     let after = if marked.len() == inside.len() {
-        first_of_line(behind)
+        first_of_line(following)
     } else {
         ""
     };

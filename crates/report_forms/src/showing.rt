@@ -2,7 +2,7 @@
 
 ghost use Rattle.std.specs.Prelude.{◌≡◌, ◌++◌, IfOk, OnOk, IsTrue, ◌↔◌, string_bytes};
 ghost use Rattle.std.specs.Str.{encode_utf8_all};
-ghost use Rattle.report_forms.specs.Shown.{is_control, stand_in, shown_character, shown_text, HasNoControl};
+ghost use Rattle.report_forms.specs.Shown.{is_control, visible_character, shown_character, shown_text, HasNoControl};
 
 use std::alloc::{AllocError, Global};
 
@@ -29,13 +29,13 @@ fn push_shown(shown: &mut String, character: char) -> Result<(), AllocError>
     if character == '\t' {
         shown.push_str("    ")
     } else {
-        shown.push(stand_in(character))
+        shown.push(visible_character(character))
     }
 }
 
 /// The character that is shown for one that is no tab.
-fn stand_in(character: char) -> char
-    ensures { result ≡ stand_in character }
+fn visible_character(character: char) -> char
+    ensures { result ≡ visible_character character }
 {
     if !is_control(character) {
         character

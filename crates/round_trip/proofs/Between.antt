@@ -19,16 +19,16 @@ none_begin (b ∷ bytes) others h = go (b == 34) h
 
 -- ---- a text between marks
 
-begins_itself : (mark behind : List ℕ) → begins_with mark (mark ++ behind) ≡ true
-begins_itself [] behind = refl
-begins_itself (b ∷ mark) behind = and_from (b == b) (begins_with mark (mark ++ behind)) (eq-eqb b b refl) (begins_itself mark behind)
+begins_itself : (mark following : List ℕ) → begins_with mark (mark ++ following) ≡ true
+begins_itself [] following = refl
+begins_itself (b ∷ mark) following = and_from (b == b) (begins_with mark (mark ++ following)) (eq-eqb b b refl) (begins_itself mark following)
 
 -- what is closed is as long as the text with both marks
-pub closed : (mark text behind : List ℕ) (n : ℕ) → n ≡ length text → closed_len mark n (mark ++ (text ++ (mark ++ behind))) ≡ Some (length (mark ++ (text ++ mark)))
-closed mark text behind n e =
-    ap (λ (bytes : List ℕ). cond (begins_with mark (drop (length mark + n) bytes)) (Some (length mark + n + length mark)) None) (sym (append_assoc mark text (mark ++ behind)))
-    ∙ ap (λ (bytes : List ℕ). cond (begins_with mark bytes) (Some (length mark + n + length mark)) None) (drop_at (mark ++ text) (mark ++ behind) (length mark + n) front)
-    ∙ ap (λ (t : Bool). cond t (Some (length mark + n + length mark)) None) (begins_itself mark behind)
+pub closed : (mark text following : List ℕ) (n : ℕ) → n ≡ length text → closed_len mark n (mark ++ (text ++ (mark ++ following))) ≡ Some (length (mark ++ (text ++ mark)))
+closed mark text following n e =
+    ap (λ (bytes : List ℕ). cond (begins_with mark (drop (length mark + n) bytes)) (Some (length mark + n + length mark)) None) (sym (append_assoc mark text (mark ++ following)))
+    ∙ ap (λ (bytes : List ℕ). cond (begins_with mark bytes) (Some (length mark + n + length mark)) None) (drop_at (mark ++ text) (mark ++ following) (length mark + n) front)
+    ∙ ap (λ (t : Bool). cond t (Some (length mark + n + length mark)) None) (begins_itself mark following)
     ∙ ap Some whole
   where
     front : length (mark ++ text) ≡ length mark + n

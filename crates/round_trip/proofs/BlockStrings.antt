@@ -17,33 +17,33 @@ use Rattle.round_trip.proofs.Indents.{indent_removed, ends_removed, formatted_is
 
 -- ---- the token
 
-ends_at_marks : (behind : List ℕ) → run_len block_character_len 0 (quotes ++ behind) ≡ 0
+ends_at_marks : (following : List ℕ) → run_len block_character_len 0 (quotes ++ following) ≡ 0
 unfolding block_character_len
-ends_at_marks behind = run_end block_character_len (quotes ++ behind) refl
+ends_at_marks following = run_end block_character_len (quotes ++ following) refl
 
 string_found : (bytes : List ℕ) → token_at (quotes ++ bytes) ≡ of_kind k.BlockString (block_len (quotes ++ bytes))
 unfolding token_at string_at
 string_found bytes = refl
 
-inside_length : (prefix : List ℕ) (level : ℕ) (lines : List (List ℕ)) (behind : List ℕ) → IsWhite prefix → run_len block_character_len 0 (written prefix level lines ++ (quotes ++ behind)) ≡ length (written prefix level lines)
-inside_length prefix level lines behind white =
-    let all = (written_reads prefix level lines (quotes ++ behind) (white_start prefix level white)).passed in
-    let end = ends_at_marks behind in
+inside_length : (prefix : List ℕ) (level : ℕ) (lines : List (List ℕ)) (following : List ℕ) → IsWhite prefix → run_len block_character_len 0 (written prefix level lines ++ (quotes ++ following)) ≡ length (written prefix level lines)
+inside_length prefix level lines following white =
+    let all = (written_reads prefix level lines (quotes ++ following) (white_start prefix level white)).passed in
+    let end = ends_at_marks following in
     omega arith
 
-block_reach : (text behind : List ℕ) → run_len block_character_len 0 (text ++ (quotes ++ behind)) ≡ length text → block_len (quotes ++ (text ++ (quotes ++ behind))) ≡ Some (length (quotes ++ (text ++ quotes)))
+block_reach : (text following : List ℕ) → run_len block_character_len 0 (text ++ (quotes ++ following)) ≡ length text → block_len (quotes ++ (text ++ (quotes ++ following))) ≡ Some (length (quotes ++ (text ++ quotes)))
 unfolding block_len
-block_reach text behind run = closed quotes text behind (run_len block_character_len 0 (text ++ (quotes ++ behind))) run
+block_reach text following run = closed quotes text following (run_len block_character_len 0 (text ++ (quotes ++ following))) run
 
 -- What is printed as a block string is one BlockString token, whatever follows it.
-pub block_is_token : (prefix : List ℕ) (level : ℕ) (text behind : List ℕ) → IsWhite prefix → IsToken k.BlockString (block_text prefix level text) behind
-block_is_token prefix level text behind white =
+pub block_is_token : (prefix : List ℕ) (level : ℕ) (text following : List ℕ) → IsWhite prefix → IsToken k.BlockString (block_text prefix level text) following
+block_is_token prefix level text following white =
     let inside = written prefix level (text_lines text) in
     let is : block_text prefix level text ≡ quotes ++ (inside ++ quotes) = block_is prefix level text in
-    ap (λ (t : List ℕ). token_at (t ++ behind)) is
-    ∙ ap (λ (t : List ℕ). token_at (quotes ++ t)) (append_assoc inside quotes behind)
-    ∙ string_found (inside ++ (quotes ++ behind))
-    ∙ ap (of_kind k.BlockString) (block_reach inside behind (inside_length prefix level (text_lines text) behind white))
+    ap (λ (t : List ℕ). token_at (t ++ following)) is
+    ∙ ap (λ (t : List ℕ). token_at (quotes ++ t)) (append_assoc inside quotes following)
+    ∙ string_found (inside ++ (quotes ++ following))
+    ∙ ap (of_kind k.BlockString) (block_reach inside following (inside_length prefix level (text_lines text) following white))
     ∙ ap (λ (t : List ℕ). Some (k.BlockString, length t)) (sym is)
 
 -- ---- the value

@@ -40,13 +40,13 @@ use Rattle.round_trip.proofs.DirectiveDefinitions.{directive_with, directive_def
 
 -- what may come before the end of a word may come before a definition
 before_definition : {A : Type 0} {r : Rule A} {says : A → Type 0} {a : List ℕ} → Printed r says ends_word a → Printed r says ends_definition a
-before_definition p = before_less ends_definition (λ behind fine. (and_parts (ends_word behind) (begins_definition behind) fine).0) p
+before_definition p = before_less ends_definition (λ following fine. (and_parts (ends_word following) (begins_definition following) fine).0) p
 
 -- a tree that passes, where all do of which it is said
 passing : {A : Type 0} {r : Rule A} {says : A → Type 0} {f : Follow} {a : List ℕ} (passes : A → Bool) → ((x : A) → says x → passes x ≡ true) → Printed r says f a → Printed (such_that passes r) says f a
 passing passes so p = record {
-  stands = λ behind at others fine lexed.
-      let b = p.stands behind at others fine lexed in
+  stands = λ following at others fine lexed.
+      let b = p.stands following at others fine lexed in
       record {
         tokens = b.tokens;
         lexed = b.lexed;
@@ -170,17 +170,17 @@ module _ {P : Type 0} (m : Meaning P) (n : ℕ) where
         (right (EnumKind <$> enum_type m n) p))))
 
   -- after `extend`
-  behind_extend : {b : List ℕ} (t : DefinitionTree (Unit {0})) → Printed extended_rule (IsExtended t) ends_definition b → Printed (definition m n) (λ x. unplaced_definition x ≡ t) ends_definition (extend ++ b)
+  after_extend : {b : List ℕ} (t : DefinitionTree (Unit {0})) → Printed extended_rule (IsExtended t) ends_definition b → Printed (definition m n) (λ x. unplaced_definition x ≡ t) ends_definition (extend ++ b)
   unfolding definition type_system_extension words
-  behind_extend t p =
+  after_extend t p =
       right ((λ x. Operation x.place x.it) <$> rule.placed m (operation_definition m n))
       (right ((λ x. Fragment x.place x.it) <$> rule.placed m (fragment_definition m n))
       (right (type_system_definition m n)
       (mapped extension_of (λ x. unplaced_definition x ≡ t) (λ x said. said.1.0 x.place)
-      (placed m (seq {f = ends_word} (λ behind fine. refl) (keyword is_extend (codes "extend") refl refl) (ignored (32 ∷ []) refl (passing has_part (λ k said. said.1) p)))))))
+      (placed m (seq {f = ends_word} (λ following fine. refl) (keyword is_extend (codes "extend") refl refl) (ignored (32 ∷ []) refl (passing has_part (λ k said. said.1) p)))))))
 
   type_extended : {b : List ℕ} (t : DefinitionTree (Unit {0})) → Printed (type_definition m n) (IsExtended t) ends_definition b → Printed (definition m n) (λ x. unplaced_definition x ≡ t) ends_definition (extend ++ b)
-  type_extended t p = behind_extend t (right (SchemaKind <$> schema_extension m n) p)
+  type_extended t p = after_extend t (right (SchemaKind <$> schema_extension m n) p)
 
 module _ {P Q : Type 0} (m : Meaning P) (lits : LiteralsRead m.string) (prefix : Prefix) (white : is_white_prefix prefix ≡ true) (n level : ℕ) where
   -- ---- kinds of types
@@ -213,10 +213,10 @@ module _ {P Q : Type 0} (m : Meaning P) (lits : LiteralsRead m.string) (prefix :
   -- ---- definitions and extensions
 
   -- after a description
-  behind_description : {b : List ℕ} (d : Option (Text Q)) (t : DefinitionTree (Unit {0})) → Printed (described_rule m n) (IsDescribed (option_map unplaced_text d) t) ends_definition b
+  after_description : {b : List ℕ} (d : Option (Text Q)) (t : DefinitionTree (Unit {0})) → Printed (described_rule m n) (IsDescribed (option_map unplaced_text d) t) ends_definition b
       → Printed (definition m n) (λ x. unplaced_definition x ≡ t) ends_definition (description_text prefix level d ++ b)
   unfolding definition type_system_definition
-  behind_description d t p =
+  after_description d t p =
       right ((λ x. Operation x.place x.it) <$> rule.placed m (operation_definition m n))
       (right ((λ x. Fragment x.place x.it) <$> rule.placed m (fragment_definition m n))
       (left (type_system_extension m n)
@@ -225,7 +225,7 @@ module _ {P Q : Type 0} (m : Meaning P) (lits : LiteralsRead m.string) (prefix :
   type_described : {b : List ℕ} (d : Option (Text Q)) (t : DefinitionTree (Unit {0})) → Printed (type_definition m n) (λ k. IsDescribed (option_map unplaced_text d) t (inl k)) ends_definition b
       → Printed (definition m n) (λ x. unplaced_definition x ≡ t) ends_definition (description_text prefix level d ++ b)
   type_described d t p =
-      behind_description d t
+      after_description d t
       (left (inr <$> directive_definition m n)
       (mapped inl (IsDescribed (option_map unplaced_text d) t) (λ k said. said) (right (SchemaKind <$> schema_definition m n) p)))
 
@@ -242,10 +242,10 @@ module _ {P Q : Type 0} (m : Meaning P) (lits : LiteralsRead m.string) (prefix :
   directive_described d p h w le =
       let (h1, formed) = and_parts (names.is_name d.name.it) (input_values_well_formed d.arguments && directives_well_formed d.directives) h in
       let (h2, h3) = and_parts (input_values_well_formed d.arguments) (directives_well_formed d.directives) formed in
-      let (w1, behind) = and_parts (input_values_writable d.arguments) (directives_writable constant d.directives && not (is_none_of d.locations)) w in
-      let (w2, w3) = and_parts (directives_writable constant d.directives) (not (is_none_of d.locations)) behind in
+      let (w1, following) = and_parts (input_values_writable d.arguments) (directives_writable constant d.directives && not (is_none_of d.locations)) w in
+      let (w2, w3) = and_parts (directives_writable constant d.directives) (not (is_none_of d.locations)) following in
       let plain : DirectiveDefinitionTree (Unit {0}) = directive_with d.name.it (map (unplaced_node unplaced_input_value) d.arguments) (unplaced_directives d.directives) d.repeatable d.locations in
-      behind_description d.description (unplaced_definition (DirectiveDefinition p d))
+      after_description d.description (unplaced_definition (DirectiveDefinition p d))
       (right (inl <$> (SchemaKind <$> schema_definition m n ∣ type_definition m n))
       (mapped inr (IsDescribed (option_map unplaced_text d.description) (unplaced_definition (DirectiveDefinition p d)))
       (λ x said q o same. one_described (λ e y. DirectiveDefinition tt (record y { description = e })) (option_map unplaced_text o) (option_map unplaced_text d.description) (unplaced_directive_definition x) plain same said)
@@ -256,7 +256,7 @@ module _ {P Q : Type 0} (m : Meaning P) (lits : LiteralsRead m.string) (prefix :
   unfolding joined
   schema_described d s p h w le =
       let (w1, w2) = and_parts (directives_writable constant s.directives) (has_some s.roots) w in
-      behind_description d (unplaced_definition (Schema p d s))
+      after_description d (unplaced_definition (Schema p d s))
       (left (inr <$> directive_definition m n)
       (mapped inl (IsDescribed (option_map unplaced_text d) (unplaced_definition (Schema p d s))) (λ k said. said)
       (left (type_definition m n)
@@ -268,7 +268,7 @@ module _ {P Q : Type 0} (m : Meaning P) (lits : LiteralsRead m.string) (prefix :
   unfolding joined
   schema_extended s p h w le =
       let (w1, w2) = and_parts (directives_writable constant s.directives) (has_some s.directives || has_some s.roots) w in
-      behind_extend m n (unplaced_definition (ExtendSchema p s))
+      after_extend m n (unplaced_definition (ExtendSchema p s))
       (left (type_definition m n)
       (mapped SchemaKind (IsExtended (unplaced_definition (ExtendSchema p s))) (λ x said. (λ q. ap (ExtendSchema tt) said, schema_part x s w2 said)) (schema_extension_read m lits prefix white s n level h w1 le)))
 

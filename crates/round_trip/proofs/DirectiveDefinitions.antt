@@ -114,16 +114,16 @@ further_locations [] = no_more ((λ x. x.1) <$> mark is_pipe · location_rule) e
 further_locations (l ∷ ls) =
     as_text _ (further_is (codes " | ") (location_keyword l) (map location_keyword ls))
     (ignored (32 ∷ []) refl
-    (more {f = ends_word} (λ xs. xs ≡ l ∷ ls) (λ x xs e f. next_location x l xs ls e f) (λ behind fine. further_ends 32 (124 ∷ 32 ∷ []) (map location_keyword ls) behind refl fine)
-    (mapped (λ x. x.1) (λ x. x ≡ l) (λ x said. said.1) (seq {f = any} (λ behind fine. refl) pipe (ignored (32 ∷ []) refl (location_read l)))) (further_locations ls)))
+    (more {f = ends_word} (λ xs. xs ≡ l ∷ ls) (λ x xs e f. next_location x l xs ls e f) (λ following fine. further_ends 32 (124 ∷ 32 ∷ []) (map location_keyword ls) following refl fine)
+    (mapped (λ x. x.1) (λ x. x ≡ l) (λ x said. said.1) (seq {f = any} (λ following fine. refl) pipe (ignored (32 ∷ []) refl (location_read l)))) (further_locations ls)))
 
 -- A | B
 pub locations_read : (l : DirectiveLocation) (ls : List DirectiveLocation) → Printed directive_locations (λ xs. xs ≡ l ∷ ls) ends_word (location_keyword l ++ further_text (codes " | ") (map location_keyword ls))
 unfolding directive_locations
 locations_read l ls =
     mapped (λ x. x.1.0 ∷ x.1.1) (λ xs. xs ≡ l ∷ ls) (λ x said. next_location x.1.0 l x.1.1 ls said.1.0 said.1.1)
-    (seq {f = any} (λ behind fine. refl) (left_out (mark is_pipe) any)
-    (seq {f = ends_word} (λ behind fine. further_ends 32 (124 ∷ 32 ∷ []) (map location_keyword ls) behind refl fine) (location_read l) (further_locations ls)))
+    (seq {f = any} (λ following fine. refl) (left_out (mark is_pipe) any)
+    (seq {f = ends_word} (λ following fine. further_ends 32 (124 ∷ 32 ∷ []) (map location_keyword ls) following refl fine) (location_read l) (further_locations ls)))
 
 abbrev pub directive_with : List ℕ → InputValues (Unit {0}) → Directives (Unit {0}) → Bool → List DirectiveLocation → DirectiveDefinitionTree (Unit {0})
 directive_with n vs ds r ls = record { description = None; name = record { it = n; place = tt }; arguments = vs; directives = ds; repeatable = r; locations = ls }
@@ -154,7 +154,7 @@ module _ {P Q : Type 0} (m : Meaning P) (lits : LiteralsRead m.string) (prefix :
       mapped directive_definition_of (λ x. unplaced_directive_definition x ≡ directive_with name (map (unplaced_node unplaced_input_value) vs) (unplaced_directives ds) r (l ∷ ls)) (λ x said. one_directive _ _ _ _ _ _ _ _ _ _ said.1.1.0 said.1.1.1.0 said.1.1.1.1.0 said.1.1.1.1.1.0 said.1.1.1.1.1.1.1)
       (seq_word refl (keyword is_directive (codes "directive") refl refl)
       (ignored (32 ∷ []) refl
-      (seq {f = any} (λ behind fine. refl) at
+      (seq {f = any} (λ following fine. refl) at
       (seq_word end4 (any_name m name h1)
       (seq_word end3 (argument_definitions_read m lits prefix white vs n level h2 w1 (omega arith))
       (seq_word end2 (directives_read m lits constant ds n h3 w2 (omega arith))

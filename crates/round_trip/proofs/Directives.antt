@@ -49,7 +49,7 @@ module _ {P Q : Type 0} (m : Meaning P) (lits : LiteralsRead m.string) where
       (given
       (ignored (32 ∷ []) refl
       (mapped (λ x. x.1) (λ x. unplaced_value x.it ≡ unplaced_value v.it) (λ x said. said.1)
-      (seq {f = any} (λ behind fine. refl) equals (ignored (32 ∷ []) refl (nothing_more (placed m (value_read m lits constant v.it n h w le))))))))
+      (seq {f = any} (λ following fine. refl) equals (ignored (32 ∷ []) refl (nothing_more (placed m (value_read m lits constant v.it n h w le))))))))
 
   pub argument_read : (const : Const) (n : ℕ) (a : Placed Q (ArgumentTree Q)) → argument_well_formed a ≡ true → argument_writable const a ≡ true → argument_depth a ≤ n → Printed (argument m const n) (λ x. unplaced_argument x ≡ unplaced_argument a.it) ends_word (argument_text a.it)
   unfolding argument
@@ -76,8 +76,8 @@ module _ {P Q : Type 0} (m : Meaning P) (lits : LiteralsRead m.string) where
   directive_read const n d h w le =
       let (h1, h2) = and_parts _ _ h in
       mapped directive_of (λ x. unplaced_directive x ≡ unplaced_directive d.it) (λ x said. one_directive _ _ _ _ said.1.0 said.1.1)
-      (seq {f = any} (λ behind fine. refl) at
-      (seq {f = ends_word} (λ behind fine. ends_before (arguments_text d.it.arguments ++ []) behind (ends_before (arguments_text d.it.arguments) [] (parenthesized_ends (texts_of argument_text d.it.arguments)) refl) fine)
+      (seq {f = any} (λ following fine. refl) at
+      (seq {f = ends_word} (λ following fine. ends_before (arguments_text d.it.arguments ++ []) following (ends_before (arguments_text d.it.arguments) [] (parenthesized_ends (texts_of argument_text d.it.arguments)) refl) fine)
       (any_name m d.it.name.it h1) (nothing_more (arguments_read const d.it.arguments n h2 w le))))
 
   abbrev pub AreDirectives : Directives Q → Option (Directives P) → Type 0

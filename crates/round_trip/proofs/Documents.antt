@@ -43,45 +43,45 @@ rest_text prefix level ds = joined (map (next_definition_text prefix level) ds) 
 -- ---- what begins a definition
 
 -- after bytes that are ignored
-begins_behind : (front behind : List ℕ) → list_all is_ignored_byte front ≡ true → begins_definition behind ≡ true → begins_definition (front ++ behind) ≡ true
-begins_behind [] behind h k = k
-begins_behind (b ∷ front) behind h k = let (h1, h2) = and_parts (is_ignored_byte b) (list_all is_ignored_byte front) h in rw h1 (begins_behind front behind h2 k)
+begins_after : (front following : List ℕ) → list_all is_ignored_byte front ≡ true → begins_definition following ≡ true → begins_definition (front ++ following) ≡ true
+begins_after [] following h k = k
+begins_after (b ∷ front) following h k = let (h1, h2) = and_parts (is_ignored_byte b) (list_all is_ignored_byte front) h in rw h1 (begins_after front following h2 k)
 
-described_begins : {Q : Type 0} (prefix : Prefix) (level : ℕ) (d : Option (Text Q)) (text behind : List ℕ) → begins_definition (text ++ behind) ≡ true → begins_definition ((description_text prefix level d ++ text) ++ behind) ≡ true
+described_begins : {Q : Type 0} (prefix : Prefix) (level : ℕ) (d : Option (Text Q)) (text following : List ℕ) → begins_definition (text ++ following) ≡ true → begins_definition ((description_text prefix level d ++ text) ++ following) ≡ true
 unfolding joined
-described_begins prefix level None text behind h = h
-described_begins None level (Some d) text behind h = refl
-described_begins (Some lines) level (Some d) text behind h = go (has_byte 10 d.it && can_be_block_string d.it)
+described_begins prefix level None text following h = h
+described_begins None level (Some d) text following h = refl
+described_begins (Some lines) level (Some d) text following h = go (has_byte 10 d.it && can_be_block_string d.it)
   where
-    go : (b : Bool) → begins_definition (((cond b (block_text lines level d.it) (quoted_text d.it) ++ ((10 ∷ (line_start lines level ++ [])) ++ [])) ++ text) ++ behind) ≡ true
+    go : (b : Bool) → begins_definition (((cond b (block_text lines level d.it) (quoted_text d.it) ++ ((10 ∷ (line_start lines level ++ [])) ++ [])) ++ text) ++ following) ≡ true
     go true = refl
     go false = refl
 
-keyword_begins : (t : OperationType) (text behind : List ℕ) → begins_definition ((operation_keyword t ++ text) ++ behind) ≡ true
-keyword_begins Query text behind = refl
-keyword_begins Mutation text behind = refl
-keyword_begins Subscription text behind = refl
+keyword_begins : (t : OperationType) (text following : List ℕ) → begins_definition ((operation_keyword t ++ text) ++ following) ≡ true
+keyword_begins Query text following = refl
+keyword_begins Mutation text following = refl
+keyword_begins Subscription text following = refl
 
 -- a definition that does not begin the text begins with a word or a description
-definition_begins : {Q : Type 0} (prefix : Prefix) (d : DefinitionTree Q) (level : ℕ) (behind : List ℕ) → begins_definition (definition_text false prefix d level ++ behind) ≡ true
+definition_begins : {Q : Type 0} (prefix : Prefix) (d : DefinitionTree Q) (level : ℕ) (following : List ℕ) → begins_definition (definition_text false prefix d level ++ following) ≡ true
 unfolding joined
-definition_begins prefix (Operation p o) level behind = keyword_begins o.operation_type _ behind
-definition_begins prefix (Fragment p f) level behind = refl
-definition_begins prefix (DirectiveDefinition p d) level behind = described_begins prefix level d.description _ behind refl
-definition_begins prefix (Schema p d s) level behind = described_begins prefix level d _ behind refl
-definition_begins prefix (ScalarType p d t) level behind = described_begins prefix level d _ behind refl
-definition_begins prefix (ObjectType p d t) level behind = described_begins prefix level d _ behind refl
-definition_begins prefix (InterfaceType p d t) level behind = described_begins prefix level d _ behind refl
-definition_begins prefix (UnionType p d t) level behind = described_begins prefix level d _ behind refl
-definition_begins prefix (EnumType p d t) level behind = described_begins prefix level d _ behind refl
-definition_begins prefix (InputObjectType p d t) level behind = described_begins prefix level d _ behind refl
-definition_begins prefix (ExtendSchema p s) level behind = refl
-definition_begins prefix (ExtendScalar p t) level behind = refl
-definition_begins prefix (ExtendObject p t) level behind = refl
-definition_begins prefix (ExtendInterface p t) level behind = refl
-definition_begins prefix (ExtendUnion p t) level behind = refl
-definition_begins prefix (ExtendEnum p t) level behind = refl
-definition_begins prefix (ExtendInputObject p t) level behind = refl
+definition_begins prefix (Operation p o) level following = keyword_begins o.operation_type _ following
+definition_begins prefix (Fragment p f) level following = refl
+definition_begins prefix (DirectiveDefinition p d) level following = described_begins prefix level d.description _ following refl
+definition_begins prefix (Schema p d s) level following = described_begins prefix level d _ following refl
+definition_begins prefix (ScalarType p d t) level following = described_begins prefix level d _ following refl
+definition_begins prefix (ObjectType p d t) level following = described_begins prefix level d _ following refl
+definition_begins prefix (InterfaceType p d t) level following = described_begins prefix level d _ following refl
+definition_begins prefix (UnionType p d t) level following = described_begins prefix level d _ following refl
+definition_begins prefix (EnumType p d t) level following = described_begins prefix level d _ following refl
+definition_begins prefix (InputObjectType p d t) level following = described_begins prefix level d _ following refl
+definition_begins prefix (ExtendSchema p s) level following = refl
+definition_begins prefix (ExtendScalar p t) level following = refl
+definition_begins prefix (ExtendObject p t) level following = refl
+definition_begins prefix (ExtendInterface p t) level following = refl
+definition_begins prefix (ExtendUnion p t) level following = refl
+definition_begins prefix (ExtendEnum p t) level following = refl
+definition_begins prefix (ExtendInputObject p t) level following = refl
 
 regrouped : (b s d j e : List ℕ) → b ++ (s ++ (d ++ (j ++ e))) ≡ ((b ++ (s ++ (d ++ []))) ++ j) ++ e
 regrouped b s d j e =
@@ -92,31 +92,31 @@ regrouped b s d j e =
     ∙ ap (λ (l : List ℕ). b ++ (s ++ (l ++ (j ++ e)))) (append-nil d))
 
 -- the next definition, from the end of the last one
-next_begins : {Q : Type 0} (prefix : Prefix) (level : ℕ) (d : DefinitionTree Q) (behind : List ℕ) → is_white_prefix prefix ≡ true → begins_definition (between_text prefix ++ (start_text prefix level ++ (definition_text false prefix d level ++ behind))) ≡ true
-next_begins prefix level d behind white =
-    begins_behind (between_text prefix) (start_text prefix level ++ (definition_text false prefix d level ++ behind)) (between_ignored prefix)
-    (begins_behind (start_text prefix level) (definition_text false prefix d level ++ behind) (start_ignored prefix level white) (definition_begins prefix d level behind))
+next_begins : {Q : Type 0} (prefix : Prefix) (level : ℕ) (d : DefinitionTree Q) (following : List ℕ) → is_white_prefix prefix ≡ true → begins_definition (between_text prefix ++ (start_text prefix level ++ (definition_text false prefix d level ++ following))) ≡ true
+next_begins prefix level d following white =
+    begins_after (between_text prefix) (start_text prefix level ++ (definition_text false prefix d level ++ following)) (between_ignored prefix)
+    (begins_after (start_text prefix level) (definition_text false prefix d level ++ following) (start_ignored prefix level white) (definition_begins prefix d level following))
 
-between_ends : (prefix : Prefix) (behind : List ℕ) → ends_word (between_text prefix ++ behind) ≡ true
-between_ends None behind = refl
-between_ends (Some prefix) behind = refl
+between_ends : (prefix : Prefix) (following : List ℕ) → ends_word (between_text prefix ++ following) ≡ true
+between_ends None following = refl
+between_ends (Some prefix) following = refl
 
 both : (x y : Bool) → x ≡ true → y ≡ true → (x && y) ≡ true
 both x y h k = rw h (rw k refl)
 
-rest_ends : {Q : Type 0} (prefix : Prefix) (level : ℕ) (ds : List (DefinitionTree Q)) (behind : List ℕ) → is_white_prefix prefix ≡ true → ends_definition behind ≡ true → ends_definition (rest_text prefix level ds ++ behind) ≡ true
+rest_ends : {Q : Type 0} (prefix : Prefix) (level : ℕ) (ds : List (DefinitionTree Q)) (following : List ℕ) → is_white_prefix prefix ≡ true → ends_definition following ≡ true → ends_definition (rest_text prefix level ds ++ following) ≡ true
 unfolding joined
-rest_ends None level [] behind white h = h
-rest_ends (Some prefix) level [] behind white h = (and_parts (ends_word behind) (begins_definition behind) h).1
-rest_ends prefix level (d ∷ ds) behind white h =
+rest_ends None level [] following white h = h
+rest_ends (Some prefix) level [] following white h = (and_parts (ends_word following) (begins_definition following) h).1
+rest_ends prefix level (d ∷ ds) following white h =
     let end : List ℕ = end_text prefix ++ [] in
     let others : List ℕ = joined (map (next_definition_text prefix level) ds) in
     let text : List ℕ = definition_text false prefix d level in
-    let tail : List ℕ = start_text prefix level ++ (text ++ (others ++ (end ++ behind))) in
+    let tail : List ℕ = start_text prefix level ++ (text ++ (others ++ (end ++ following))) in
     let front : List ℕ = (between_text prefix ++ (start_text prefix level ++ (text ++ []))) ++ others in
-    let same : between_text prefix ++ tail ≡ (front ++ end) ++ behind = regrouped (between_text prefix) (start_text prefix level) text others (end ++ behind) ∙ sym (append_assoc front end behind) in
+    let same : between_text prefix ++ tail ≡ (front ++ end) ++ following = regrouped (between_text prefix) (start_text prefix level) text others (end ++ following) ∙ sym (append_assoc front end following) in
     subst (λ (l : List ℕ). ends_definition l ≡ true) same
-    (both (ends_word (between_text prefix ++ tail)) (begins_definition (between_text prefix ++ tail)) (between_ends prefix tail) (next_begins prefix level d (others ++ (end ++ behind)) white))
+    (both (ends_word (between_text prefix ++ tail)) (begins_definition (between_text prefix ++ tail)) (between_ends prefix tail) (next_begins prefix level d (others ++ (end ++ following)) white))
 
 abbrev AreDefinitions : {P Q : Type 0} → List (DefinitionTree Q) → List (DefinitionTree P) → Type 0
 AreDefinitions ds xs = unplaced_document xs ≡ unplaced_document ds
@@ -136,7 +136,7 @@ module _ {P Q : Type 0} (m : Meaning P) (lits : LiteralsRead m.string) (prefix :
       (ignored (between_text prefix) (between_ignored prefix)
       (ignored (start_text prefix level) (start_ignored prefix level white)
       (more {f = ends_definition} (AreDefinitions (d ∷ ds)) (λ x xs this others. one_more (unplaced_definition x) (unplaced_definition d) (unplaced_document xs) (unplaced_document ds) this others)
-      (λ behind fine. rest_ends prefix level ds behind white fine)
+      (λ following fine. rest_ends prefix level ds following white fine)
       (definition_read m lits prefix white false d n level h1 w1 (omega arith)) (rest_read ds n level h2 w2 (omega arith)))))
 
   pub document_read : (d : DefinitionTree Q) (ds : List (DefinitionTree Q)) (n level : ℕ) → list_all definition_well_formed (d ∷ ds) ≡ true → list_all definition_writable (d ∷ ds) ≡ true → depths definition_depth (d ∷ ds) ≤ n
@@ -147,5 +147,5 @@ module _ {P Q : Type 0} (m : Meaning P) (lits : LiteralsRead m.string) (prefix :
       let (w1, w2) = and_parts (definition_writable d) (list_all definition_writable ds) w in
       ignored (start_text prefix level) (start_ignored prefix level white)
       (one_or_more {f = ends_definition} (AreDefinitions (d ∷ ds)) (λ x xs this others. one_more (unplaced_definition x) (unplaced_definition d) (unplaced_document xs) (unplaced_document ds) this others)
-      (λ behind fine. rest_ends prefix level ds behind white fine)
+      (λ following fine. rest_ends prefix level ds following white fine)
       (definition_read m lits prefix white (begins_output prefix level) d n level h1 w1 (omega arith)) (rest_read ds n level h2 w2 (omega arith)))

@@ -119,9 +119,9 @@ no_return (line ∷ lines) h =
 abbrev AnyAtMargin : Lines → Type 0
 AnyAtMargin lines = list_any is_at_margin lines ≡ true
 
-any_behind : (t : Bool) (lines : Lines) → AnyAtMargin lines → (t || list_any is_at_margin lines) ≡ true
-any_behind true lines h = refl
-any_behind false lines h = h
+any_after : (t : Bool) (lines : Lines) → AnyAtMargin lines → (t || list_any is_at_margin lines) ≡ true
+any_after true lines h = refl
+any_after false lines h = h
 
 any_here : (t u : Bool) → t ≡ true → (t || u) ≡ true
 any_here true u h = refl
@@ -159,11 +159,11 @@ margin_reached k (line ∷ lines) h = go (is_blank line) refl h (margin_reached 
             any_here (is_at_margin (drop k line)) (list_any is_at_margin (map (drop k) lines)) (subst (λ (n : ℕ). is_at_margin (drop n line) ≡ true) own (own_margin line blank))
         order (inr (inr more_than)) =
             let other : m ≡ k = omega (arith, lowest) in
-            any_behind (is_at_margin (drop k line)) (map (drop k) lines) (more (e ∙ ap Some other))
+            any_after (is_at_margin (drop k line)) (map (drop k) lines) (more (e ∙ ap Some other))
 
     go : (t : Bool) → is_blank line ≡ t → cond t (common_indent lines) (Some (least (indent_of line) (common_indent lines))) ≡ Some k
         → (common_indent lines ≡ Some k → AnyAtMargin (map (drop k) lines)) → AnyAtMargin (map (drop k) (line ∷ lines))
-    go true blank h more = any_behind (is_at_margin (drop k line)) (map (drop k) lines) (more h)
+    go true blank h more = any_after (is_at_margin (drop k line)) (map (drop k) lines) (more h)
     go false blank h more = least_here (common_indent lines) refl blank h more
 
 none_left : (lines : Lines) → common_indent lines ≡ None → without_blank_front (map (drop 0) lines) ≡ []
@@ -232,9 +232,9 @@ last_left : (lines : Lines) → (without_blank_back lines ≡ []) ⊎ (last_is_b
 last_left [] = inl refl
 last_left (line ∷ lines) = go (list_all is_blank (line ∷ lines)) refl (last_left lines)
   where
-    behind : (others : Lines) → last_is_blank others ≡ false → last_is_blank (line ∷ others) ≡ false
-    behind [] h = absurd cc
-    behind (next ∷ others) h = h
+    following : (others : Lines) → last_is_blank others ≡ false → last_is_blank (line ∷ others) ≡ false
+    following [] h = absurd cc
+    following (next ∷ others) h = h
 
     alone : (t : Bool) → is_blank line ≡ t → list_all is_blank (line ∷ lines) ≡ false → without_blank_back lines ≡ [] → last_is_blank (line ∷ without_blank_back lines) ≡ false
     alone true e some none = let both : list_all is_blank (line ∷ lines) ≡ true = and_from (is_blank line) (list_all is_blank lines) e (nothing_left lines none) in absurd cc
@@ -244,7 +244,7 @@ last_left (line ∷ lines) = go (list_all is_blank (line ∷ lines)) refl (last_
         → (cond t [] (line ∷ without_blank_back lines) ≡ []) ⊎ (last_is_blank (cond t [] (line ∷ without_blank_back lines)) ≡ false)
     go true e more = inl refl
     go false e (inl none) = inr (alone (is_blank line) refl e none)
-    go false e (inr last) = inr (behind (without_blank_back lines) last)
+    go false e (inr last) = inr (following (without_blank_back lines) last)
 
 -- ---- the value
 
@@ -274,10 +274,10 @@ lines_can_be lines all margin = front (first_left lines)
     front (inr first) = back first (last_left (without_blank_front lines))
 
 -- What a block string stands for whose first line is empty is nothing, or can be a block string.
-pub value_can_be : (behind : List ℕ) → Either (block_string_value (10 ∷ behind))
+pub value_can_be : (following : List ℕ) → Either (block_string_value (10 ∷ following))
 unfolding block_string_value lines_of
-value_can_be behind = go (common_indent (lines_of behind)) refl
+value_can_be following = go (common_indent (lines_of following)) refl
   where
-    go : (o : Option ℕ) → common_indent (lines_of behind) ≡ o → Either (formatted (without_blank_back (without_blank_front (map (drop (or_zero o)) (lines_of behind)))))
-    go None e = inl (ap (λ (ls : Lines). formatted (without_blank_back ls)) (none_left (lines_of behind) e))
-    go (Some k) e = lines_can_be (map (drop k) (lines_of behind)) (dropped_kept k (lines_of behind) (all_in_line behind)) (margin_reached k (lines_of behind) e)
+    go : (o : Option ℕ) → common_indent (lines_of following) ≡ o → Either (formatted (without_blank_back (without_blank_front (map (drop (or_zero o)) (lines_of following)))))
+    go None e = inl (ap (λ (ls : Lines). formatted (without_blank_back ls)) (none_left (lines_of following) e))
+    go (Some k) e = lines_can_be (map (drop k) (lines_of following)) (dropped_kept k (lines_of following) (all_in_line following)) (margin_reached k (lines_of following) e)

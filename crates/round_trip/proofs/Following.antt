@@ -67,23 +67,23 @@ first_lacks kind p text at tokens others none is found =
     let shown : others ≡ with_token (Some kind) text at tokens = found ∙ ap (λ (k : Option TokenKind). with_token k text at tokens) is in
     rw shown (none text)
 
-no_brace : (behind : List ℕ) (at : ℕ) (others : List Token) (pieces : List Piece) → begins_definition behind ≡ true → ArePieces pieces behind [] → others ≡ tokens_among pieces behind at → lacks is_open_brace (next_of others) ≡ true
+no_brace : (following : List ℕ) (at : ℕ) (others : List Token) (pieces : List Piece) → begins_definition following ≡ true → ArePieces pieces following [] → others ≡ tokens_among pieces following at → lacks is_open_brace (next_of others) ≡ true
 no_brace [] at others [] h are found = rw found refl
 no_brace [] at others (p ∷ ps) h are found = absurd (nothing_at_end p are.0)
-no_brace (b ∷ behind) at others [] h are found = absurd cc
-no_brace (b ∷ behind) at others (p ∷ ps) h are found = go (is_ignored_byte b) refl h (no_brace behind (at + 1) others ps)
+no_brace (b ∷ following) at others [] h are found = absurd cc
+no_brace (b ∷ following) at others (p ∷ ps) h are found = go (is_ignored_byte b) refl h (no_brace following (at + 1) others ps)
   where
-    go : (i : Bool) → is_ignored_byte b ≡ i → cond i (begins_definition behind) (is_name_start b || b == 34) ≡ true
-        → (begins_definition behind ≡ true → ArePieces ps behind [] → others ≡ tokens_among ps behind (at + 1) → lacks is_open_brace (next_of others) ≡ true) → lacks is_open_brace (next_of others) ≡ true
+    go : (i : Bool) → is_ignored_byte b ≡ i → cond i (begins_definition following) (is_name_start b || b == 34) ≡ true
+        → (begins_definition following ≡ true → ArePieces ps following [] → others ≡ tokens_among ps following (at + 1) → lacks is_open_brace (next_of others) ≡ true) → lacks is_open_brace (next_of others) ≡ true
     go true e h more =
-        let same : p ≡ record { kind = None; length = 1 } = same_piece p (record { kind = None; length = 1 }) (sym are.0 ∙ ignored_piece b behind e) in
-        more h (subst (λ (q : Piece). ArePieces ps (drop q.length (b ∷ behind)) []) same are.1)
-        (subst (λ (q : Piece). others ≡ with_token q.kind (take q.length (b ∷ behind)) at (tokens_among ps (drop q.length (b ∷ behind)) (at + q.length))) same found)
+        let same : p ≡ record { kind = None; length = 1 } = same_piece p (record { kind = None; length = 1 }) (sym are.0 ∙ ignored_piece b following e) in
+        more h (subst (λ (q : Piece). ArePieces ps (drop q.length (b ∷ following)) []) same are.1)
+        (subst (λ (q : Piece). others ≡ with_token q.kind (take q.length (b ∷ following)) at (tokens_among ps (drop q.length (b ∷ following)) (at + q.length))) same found)
     go false e h more = elim (or_cases (is_name_start b) (b == 34) h) [
       | inl start ↦
-          let same : p ≡ record { kind = Some t.Name; length = prefix_len is_name_continue (b ∷ behind) } = same_piece p _ (sym are.0 ∙ name_piece b behind start) in
+          let same : p ≡ record { kind = Some t.Name; length = prefix_len is_name_continue (b ∷ following) } = same_piece p _ (sym are.0 ∙ name_piece b following start) in
           first_lacks t.Name p _ at _ others name_lacks (ap (λ (q : Piece). q.kind) same) found
-      | inr quote ↦ elim (string_piece behind p (subst (λ (c : ℕ). piece_at (c ∷ behind) ≡ Some p) (eqb-true b 34 quote) are.0)) [
+      | inr quote ↦ elim (string_piece following p (subst (λ (c : ℕ). piece_at (c ∷ following) ≡ Some p) (eqb-true b 34 quote) are.0)) [
         | inl is ↦ first_lacks t.BlockString p _ at _ others (λ text. refl) is found
         | inr is ↦ first_lacks t.String p _ at _ others (λ text. refl) is found
       ]
@@ -93,19 +93,19 @@ module _ {A : Type 0} (r : Rule A) where
   -- left out, if no `{` may follow it
   left_out_unless : Printed (optional_unless is_open_brace r) (λ o. o ≡ None) ends_definition []
   left_out_unless = record {
-    stands = λ behind at others fine lexed.
-        let here : LexesAt at behind others = from_here at behind others lexed in
+    stands = λ following at others fine lexed.
+        let here : LexesAt at following others = from_here at following others lexed in
         record {
           tokens = others;
           lexed = here;
-          reads = λ ending last. record { tree = None; end = last; read = (refl, no_brace behind at others here.pieces (and_parts (ends_word behind) (begins_definition behind) fine).1 here.are here.found); said = refl };
+          reads = λ ending last. record { tree = None; end = last; read = (refl, no_brace following at others here.pieces (and_parts (ends_word following) (begins_definition following) fine).1 here.are here.found); said = refl };
         };
   }
 
 given_unless : {A : Type 0} {r : Rule A} {says : A → Type 0} {f : Follow} {a : List ℕ} (is : Terminal → Bool) → Printed r says f a → Printed (optional_unless is r) (λ o. (x : A) × (o ≡ Some x) × says x) f a
 given_unless is p = record {
-  stands = λ behind at others fine lexed.
-      let b = p.stands behind at others fine lexed in
+  stands = λ following at others fine lexed.
+      let b = p.stands following at others fine lexed in
       record {
         tokens = b.tokens;
         lexed = b.lexed;

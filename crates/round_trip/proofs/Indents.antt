@@ -102,14 +102,14 @@ indent_removed start lines h some =
 
 -- ---- blank lines at both ends
 
-front_kept : (lines behind : List (List ℕ)) → first_is_blank lines ≡ false → without_blank_front (lines ++ behind) ≡ lines ++ behind
-front_kept [] behind h = absurd cc
-front_kept (line ∷ lines) behind h = rw h refl
+front_kept : (lines following : List (List ℕ)) → first_is_blank lines ≡ false → without_blank_front (lines ++ following) ≡ lines ++ following
+front_kept [] following h = absurd cc
+front_kept (line ∷ lines) following h = rw h refl
 
-not_all : (lines behind : List (List ℕ)) → last_is_blank lines ≡ false → list_all is_blank (lines ++ behind) ≡ false
-not_all [] behind h = absurd cc
-not_all (line ∷ []) behind h = and_left (is_blank line) (list_all is_blank behind) h
-not_all (line ∷ next ∷ lines) behind h = and_right (is_blank line) (list_all is_blank ((next ∷ lines) ++ behind)) (not_all (next ∷ lines) behind h)
+not_all : (lines following : List (List ℕ)) → last_is_blank lines ≡ false → list_all is_blank (lines ++ following) ≡ false
+not_all [] following h = absurd cc
+not_all (line ∷ []) following h = and_left (is_blank line) (list_all is_blank following) h
+not_all (line ∷ next ∷ lines) following h = and_right (is_blank line) (list_all is_blank ((next ∷ lines) ++ following)) (not_all (next ∷ lines) following h)
 
 back_kept : (lines : List (List ℕ)) → last_is_blank lines ≡ false → without_blank_back (lines ++ [] ∷ []) ≡ lines
 back_kept [] h = absurd cc
@@ -122,25 +122,25 @@ ends_removed lines first last = ap without_blank_back (front_kept lines ([] ∷ 
 
 -- ---- lines together
 
-abbrev behind_feeds : List (List ℕ) → List ℕ
-behind_feeds lines = flat_map (λ line. 10 ∷ line) lines
+abbrev after_feeds : List (List ℕ) → List ℕ
+after_feeds lines = flat_map (λ line. 10 ∷ line) lines
 
 -- the lines of a text, each after a line feed: one line feed more than the text
-feeds_are : (text : List ℕ) → behind_feeds (text_lines text) ≡ 10 ∷ text
+feeds_are : (text : List ℕ) → after_feeds (text_lines text) ≡ 10 ∷ text
 feeds_are [] = refl
 feeds_are (x ∷ text) = go (x == 10) refl (feeds_are text)
   where
-    onto : (lines : List (List ℕ)) → behind_feeds lines ≡ 10 ∷ text → behind_feeds (onto_first x lines) ≡ 10 ∷ x ∷ text
+    onto : (lines : List (List ℕ)) → after_feeds lines ≡ 10 ∷ text → after_feeds (onto_first x lines) ≡ 10 ∷ x ∷ text
     onto [] e = absurd cc
-    onto (line ∷ lines) e = let same : line ++ behind_feeds lines ≡ text = cc in ap (λ (t : List ℕ). 10 ∷ x ∷ t) same
+    onto (line ∷ lines) e = let same : line ++ after_feeds lines ≡ text = cc in ap (λ (t : List ℕ). 10 ∷ x ∷ t) same
 
-    go : (t : Bool) → (x == 10) ≡ t → behind_feeds (text_lines text) ≡ 10 ∷ text → behind_feeds (cond t ([] ∷ text_lines text) (onto_first x (text_lines text))) ≡ 10 ∷ x ∷ text
+    go : (t : Bool) → (x == 10) ≡ t → after_feeds (text_lines text) ≡ 10 ∷ text → after_feeds (cond t ([] ∷ text_lines text) (onto_first x (text_lines text))) ≡ 10 ∷ x ∷ text
     go true e more = let is : x ≡ 10 = eqb-true x 10 e in rw is (ap (λ (t : List ℕ). 10 ∷ t) more)
     go false e more = onto (text_lines text) more
 
 pub formatted_is : (text : List ℕ) → formatted (text_lines text) ≡ text
 formatted_is text = go (text_lines text) (feeds_are text)
   where
-    go : (lines : List (List ℕ)) → behind_feeds lines ≡ 10 ∷ text → formatted lines ≡ text
+    go : (lines : List (List ℕ)) → after_feeds lines ≡ 10 ∷ text → formatted lines ≡ text
     go [] e = absurd cc
     go (line ∷ lines) e = cc

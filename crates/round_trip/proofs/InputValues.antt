@@ -6,7 +6,7 @@ use Rattle.round_trip.specs.in_literals.LineLayout.{Prefix, break_text}
 use Rattle.round_trip.specs.in_literals.StringLayout.{description_string, description_text}
 use Rattle.read_operations.specs.in_literals.ValueLayout.{default_text}
 use Rattle.read_operations.specs.in_directives.DirectiveLayout.{directives_text}
-use Rattle.read_operations.specs.in_directives.InputLayout.{input_value_text, stand_on_lines, arguments_in_line, arguments_on_lines, argument_definitions_text}
+use Rattle.read_operations.specs.in_directives.InputLayout.{input_value_text, are_on_lines, arguments_in_line, arguments_on_lines, argument_definitions_text}
 use Rattle.graphql_names.specs.Placed.{Placed, Text, unplaced_text, unplaced_node}
 use Rattle.read_operations.specs.in_values.Writable.{input_value_writable, input_values_writable}
 use Rattle.read_operations.specs.in_literals.TypeTree.{TypeTree}
@@ -41,9 +41,9 @@ module _ {P : Type 0} (m : Meaning P) (lits : LiteralsRead m.string) (prefix : P
   -- a string before what it describes
   string_here : (level : ℕ) (text : List ℕ) → Printed (description m) (λ x. x.it ≡ text) ends_word (description_string prefix level text)
   string_here level text = record {
-    stands = λ behind at others fine lexed.
-        let s : IsStringToken m.string (description_string prefix level text) text behind = lits.strings.described prefix level text behind white fine in
-        let b = token_here is_string s.kind (description_string prefix level text) behind at others (token_is_piece s.kind (description_string prefix level text) behind s.token) s.is lexed in
+    stands = λ following at others fine lexed.
+        let s : IsStringToken m.string (description_string prefix level text) text following = lits.strings.described prefix level text following white fine in
+        let b = token_here is_string s.kind (description_string prefix level text) following at others (token_is_piece s.kind (description_string prefix level text) following s.token) s.is lexed in
         record {
           tokens = b.tokens;
           lexed = b.lexed;
@@ -56,13 +56,13 @@ module _ {P Q : Type 0} (m : Meaning P) (lits : LiteralsRead m.string) (prefix :
   pub described_read : {B : Type 0} {s : Rule B} {tells : B → Type 0} {f : Follow} {b : List ℕ} (level : ℕ) (d : Option (Text Q)) → Printed s tells f b → Printed (optional (description m) · s) (λ x. IsAnyName (option_map unplaced_text d) x.0 × tells x.1) f (description_text prefix level d ++ b)
   unfolding joined
   described_read {B} {s} {tells} {f} {b} level None p =
-      seq {f = any} (λ behind fine. refl) (saying (IsAnyName None) (λ o e. ap (λ (l : Option (Text P)). option_map unplaced_text l) e) (left_out (description m) any)) p
+      seq {f = any} (λ following fine. refl) (saying (IsAnyName None) (λ o e. ap (λ (l : Option (Text P)). option_map unplaced_text l) e) (left_out (description m) any)) p
   described_read {B} {s} {tells} {f} {b} level (Some d) p =
       let break : List ℕ = break_text prefix level in
       let str : List ℕ = description_string prefix level d.it in
       let same : str ++ (break ++ b) ≡ (str ++ (break ++ [])) ++ b = ap (λ (l : List ℕ). str ++ (l ++ b)) (sym (append-nil break)) ∙ sym (append_assoc str (break ++ []) b) in
       as_text _ same
-      (seq {f = ends_word} (λ behind fine. subst (λ (l : List ℕ). ends_word l ≡ true) (sym (append_assoc break b behind)) (break_ends prefix level (b ++ behind)))
+      (seq {f = ends_word} (λ following fine. subst (λ (l : List ℕ). ends_word l ≡ true) (sym (append_assoc break b following)) (break_ends prefix level (b ++ following)))
       (saying (IsAnyName (Some (unplaced_text d))) (λ o e. some_name o e.0 d.it e.1 e.2) (given (string_here m lits prefix white level d.it)))
       (ignored break (break_ignored prefix level white) p))
 
@@ -77,8 +77,8 @@ module _ {P Q : Type 0} (m : Meaning P) (lits : LiteralsRead m.string) (prefix :
       let end2 : ends_word (default_text v.it.default_value ++ (directives_text v.it.directives ++ [])) ≡ true = ends_before (default_text v.it.default_value) (directives_text v.it.directives ++ []) (default_ends v.it.default_value) end1 in
       mapped input_value_of (λ x. unplaced_input_value x ≡ unplaced_input_value v.it) (λ x said. one_input_value _ _ _ _ _ _ _ _ _ _ said.0 said.1.0 said.1.1.1.0 said.1.1.1.1.0 said.1.1.1.1.1)
       (described_read level v.it.description
-      (seq {f = ends_word} (λ behind fine. refl) (any_name m v.it.name.it h1)
-      (seq {f = any} (λ behind fine. refl) colon
+      (seq {f = ends_word} (λ following fine. refl) (any_name m v.it.name.it h1)
+      (seq {f = any} (λ following fine. refl) colon
       (ignored (32 ∷ []) refl
       (seq_word end2 (placed m (type_read m v.it.ty.it n h2 (omega arith)))
       (seq_word end1 (default_read m lits v.it.default_value n h3 w1 (omega arith))
@@ -116,7 +116,7 @@ module _ {P Q : Type 0} (m : Meaning P) (lits : LiteralsRead m.string) where
   argument_definitions_read (Some lines) white [] n level h w le = none_there unplaced_input_value (arguments_definition m n)
   argument_definitions_read prefix white (v ∷ vs) zero level h w le = absurd (omega arith)
   argument_definitions_read None white (v ∷ vs) (suc n) level h w le = in_line m lits None white n level v vs (each_input_value m lits None white n level (v ∷ vs) h w (omega arith))
-  argument_definitions_read (Some lines) white (v ∷ vs) (suc n) level h w le = go (stand_on_lines (v ∷ vs))
+  argument_definitions_read (Some lines) white (v ∷ vs) (suc n) level h w le = go (are_on_lines (v ∷ vs))
     where
       within : depths input_value_depth (v ∷ vs) ≤ n
       within = omega arith
@@ -129,7 +129,7 @@ module _ {P Q : Type 0} (m : Meaning P) (lits : LiteralsRead m.string) where
   unfolding joined
   argument_definitions_end None [] level = refl
   argument_definitions_end None (v ∷ vs) level = refl
-  argument_definitions_end (Some lines) vs level = go vs (stand_on_lines vs)
+  argument_definitions_end (Some lines) vs level = go vs (are_on_lines vs)
     where
       go : (vs : InputValues Q) (b : Bool) → ends_word (cond b (arguments_on_lines lines vs level) (arguments_in_line (Some lines) vs level)) ≡ true
       go vs true = refl

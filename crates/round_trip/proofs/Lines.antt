@@ -49,10 +49,10 @@ start_ignored None level h = refl
 start_ignored (Some prefix) level h = subst (λ (l : List ℕ). list_all is_ignored_byte l ≡ true) (append-nil (line_start prefix level)) (break_ignored (Some prefix) level h)
 
 -- it ends a word
-pub break_ends : (prefix : Prefix) (level : ℕ) (behind : List ℕ) → ends_word (break_text prefix level ++ behind) ≡ true
+pub break_ends : (prefix : Prefix) (level : ℕ) (following : List ℕ) → ends_word (break_text prefix level ++ following) ≡ true
 unfolding joined
-break_ends None level behind = refl
-break_ends (Some prefix) level behind = refl
+break_ends None level following = refl
+break_ends (Some prefix) level following = refl
 
 pub set_ends : (prefix : Prefix) (level : ℕ) (members : List Leveled) → ends_word (set_text prefix level members) ≡ true
 unfolding joined
@@ -66,18 +66,18 @@ members_is prefix level member members =
     ap (λ (l : List ℕ). break_text prefix level ++ (l ++ members_text prefix level members)) (sym (append-nil (member level)))
     ∙ sym (append_assoc (break_text prefix level) (member level ++ []) (members_text prefix level members))
 
-pub members_end : (prefix : Prefix) (level : ℕ) (members : List Leveled) (behind : List ℕ) → ends_word behind ≡ true → ends_word (members_text prefix level members ++ behind) ≡ true
+pub members_end : (prefix : Prefix) (level : ℕ) (members : List Leveled) (following : List ℕ) → ends_word following ≡ true → ends_word (members_text prefix level members ++ following) ≡ true
 unfolding joined
-members_end prefix level [] behind fine = fine
-members_end prefix level (member ∷ members) behind fine =
-    subst (λ (l : List ℕ). ends_word (l ++ behind) ≡ true) (members_is prefix level member members)
-    (ends_before (break_text prefix level ++ (member level ++ members_text prefix level members)) behind (break_ends prefix level (member level ++ members_text prefix level members)) fine)
+members_end prefix level [] following fine = fine
+members_end prefix level (member ∷ members) following fine =
+    subst (λ (l : List ℕ). ends_word (l ++ following) ≡ true) (members_is prefix level member members)
+    (ends_before (break_text prefix level ++ (member level ++ members_text prefix level members)) following (break_ends prefix level (member level ++ members_text prefix level members)) fine)
 
 -- where none is not said, many are some
 pub some_of_many : {A : Type 0} {r : Rule A} {says : List A → Type 0} {f : Follow} {a : List ℕ} → (says [] → ⊥) → Printed (many r) says f a → Printed (some r) says f a
 some_of_many {A} {r} {says} never p = record {
-  stands = λ behind at others fine lexed.
-      let b = p.stands behind at others fine lexed in
+  stands = λ following at others fine lexed.
+      let b = p.stands following at others fine lexed in
       record { tokens = b.tokens; lexed = b.lexed; reads = λ ending last. let d = b.reads ending last in go ending last b.tokens others d.tree d.end d.read d.said };
 }
   where
@@ -91,8 +91,8 @@ pub braced : {A : Type 0} {r : Rule A} {says : A → Type 0} (prefix : Prefix) (
 unfolding joined
 braced {A} {r} {says} prefix level member members white p =
     mapped (λ x. x.1.0) says (λ x said. said.1.0)
-    (seq {f = any} (λ behind fine. refl) open_brace
-    (seq {f = ends_word} (λ behind fine. subst (λ (l : List ℕ). ends_word l ≡ true) (sym (append_assoc (break_text prefix level) (125 ∷ []) behind)) (break_ends prefix level (125 ∷ behind)))
+    (seq {f = any} (λ following fine. refl) open_brace
+    (seq {f = ends_word} (λ following fine. subst (λ (l : List ℕ). ends_word l ≡ true) (sym (append_assoc (break_text prefix level) (125 ∷ []) following)) (break_ends prefix level (125 ∷ following)))
     p (ignored (break_text prefix level) (break_ignored prefix level white) close_brace)))
 
 -- the same after something and a space

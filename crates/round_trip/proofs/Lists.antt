@@ -15,7 +15,7 @@ unfolding joined
 separated_is separator text texts = ap (λ (l : List ℕ). text ++ l) (sym (append-nil (further_text separator texts)))
 
 -- a separator ends a word
-pub further_ends : (b : ℕ) (separator : List ℕ) (texts : List (List ℕ)) (behind : List ℕ) → ends_word (b ∷ []) ≡ true → ends_word behind ≡ true → ends_word (further_text (b ∷ separator) texts ++ behind) ≡ true
+pub further_ends : (b : ℕ) (separator : List ℕ) (texts : List (List ℕ)) (following : List ℕ) → ends_word (b ∷ []) ≡ true → ends_word following ≡ true → ends_word (further_text (b ∷ separator) texts ++ following) ≡ true
 unfolding joined
-further_ends b separator [] behind h k = k
-further_ends b separator (text ∷ texts) behind h k = h
+further_ends b separator [] following h k = k
+further_ends b separator (text ∷ texts) following h k = h

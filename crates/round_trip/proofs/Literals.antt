@@ -93,17 +93,17 @@ module _ {P : Type 0} (m : Meaning P) where
     as_null p = right (front const) (right (int_value m) (right (float_value m) (right (string_value m) (right (boolean_value m) (left (from_enum list object) p)))))
 
     -- none of the alternatives before an enum value
-    behind_null : Printed (from_enum list object) says f a → Printed (any_value m const list object) says f a
-    behind_null p = right (front const) (right (int_value m) (right (float_value m) (right (string_value m) (right (boolean_value m) (right (null_value m) p)))))
+    after_null : Printed (from_enum list object) says f a → Printed (any_value m const list object) says f a
+    after_null p = right (front const) (right (int_value m) (right (float_value m) (right (string_value m) (right (boolean_value m) (right (null_value m) p)))))
 
     as_enum : Printed (EnumTree <$> enum_value m) says f a → Printed (any_value m const list object) says f a
-    as_enum p = behind_null (left (from_list list object) p)
+    as_enum p = after_null (left (from_list list object) p)
 
     pub as_list : Printed list says f a → Printed (any_value m const list object) says f a
-    as_list p = behind_null (right (EnumTree <$> enum_value m) (left object p))
+    as_list p = after_null (right (EnumTree <$> enum_value m) (left object p))
 
     pub as_object : Printed object says f a → Printed (any_value m const list object) says f a
-    as_object p = behind_null (right (EnumTree <$> enum_value m) (right list p))
+    as_object p = after_null (right (EnumTree <$> enum_value m) (right list p))
 
   -- ---- the values
 
@@ -130,26 +130,26 @@ module _ {P : Type 0} (m : Meaning P) where
     int_read numbers text h =
         as_int const list object
         (mapped (λ (x : Token). IntTree x.text) (IsValue (IntTree text)) (λ x said. ap IntTree said.1)
-        (token is_int t.Int text ends_word (λ behind fine. token_is_piece t.Int text behind (numbers.int text behind h fine)) refl))
+        (token is_int t.Int text ends_word (λ following fine. token_is_piece t.Int text following (numbers.int text following h fine)) refl))
 
     pub float_read : NumbersRead → (text : List ℕ) → is_float_value text ≡ true → Printed (any_value m const list object) (IsValue (FloatTree text)) ends_word text
     float_read numbers text h =
         as_float const list object
         (mapped (λ (x : Token). FloatTree x.text) (IsValue (FloatTree text)) (λ x said. ap FloatTree said.1)
-        (token is_float t.Float text ends_word (λ behind fine. token_is_piece t.Float text behind (numbers.float text behind h fine)) refl))
+        (token is_float t.Float text ends_word (λ following fine. token_is_piece t.Float text following (numbers.float text following h fine)) refl))
 
     pub string_read : StringsRead m.string → (text : List ℕ) → Printed (any_value m const list object) (IsValue (StringTree text)) ends_word (quoted_text text)
     string_read strings text =
         as_string const list object
         (mapped (λ (x : Token). StringTree (m.string x)) (IsValue (StringTree text)) (λ x said. ap StringTree (strings.stands_for text x said.0 said.1))
-        (token is_string t.String (quoted_text text) ends_word (λ behind fine. token_is_piece t.String (quoted_text text) behind (strings.quoted text behind fine)) refl))
+        (token is_string t.String (quoted_text text) ends_word (λ following fine. token_is_piece t.String (quoted_text text) following (strings.quoted text following fine)) refl))
 
   -- $name
   pub variable_alone : (text : List ℕ) → names.is_name text ≡ true → Printed (variable m) (λ x. x.it ≡ text) ends_word (36 ∷ text)
-  variable_alone text h = mapped (λ x. x.1) (λ x. x.it ≡ text) (λ x said. said.1) (seq {f = any} (λ behind fine. refl) dollar (any_name m text h))
+  variable_alone text h = mapped (λ x. x.1) (λ x. x.it ≡ text) (λ x said. said.1) (seq {f = any} (λ following fine. refl) dollar (any_name m text h))
 
   pub variable_name : (text : List ℕ) → names.is_name text ≡ true → Printed (variable m) (λ x. x.it ≡ text) ends_word (36 ∷ (text ++ []))
-  variable_name text h = mapped (λ x. x.1) (λ x. x.it ≡ text) (λ x said. said.1) (seq {f = any} (λ behind fine. refl) dollar (nothing_more (any_name m text h)))
+  variable_name text h = mapped (λ x. x.1) (λ x. x.it ≡ text) (λ x said. said.1) (seq {f = any} (λ following fine. refl) dollar (nothing_more (any_name m text h)))
 
   pub variable_read : (list object : Rule (ValueTree P)) (text : List ℕ) → names.is_name text ≡ true → Printed (any_value m with_variables list object) (IsValue (VariableTree (plain_text text))) ends_word (36 ∷ (text ++ []))
   variable_read list object text h =

@@ -95,14 +95,14 @@ line_reads (a ∷ b ∷ c ∷ line) rest none = go (is_quotes a b c) refl (no_ma
         → begins_with quotes (cond t (92 ∷ 34 ∷ 34 ∷ 34 ∷ block_escaped line) (a ∷ block_escaped (b ∷ c ∷ line)) ++ rest) ≡ false
         → BlockReads (block_escaped line) line rest → BlockReads (block_escaped (b ∷ c ∷ line)) (b ∷ c ∷ line) rest
         → BlockReads (cond t (92 ∷ 34 ∷ 34 ∷ 34 ∷ block_escaped line) (a ∷ block_escaped (b ∷ c ∷ line))) (a ∷ b ∷ c ∷ line) rest
-    go true e here behind next =
+    go true e here following next =
         let one : a ≡ 34 = grind (arith, common_steps) in
         let two : b ≡ 34 = grind (arith, common_steps) in
         let three : c ≡ 34 = grind (arith, common_steps) in
         let same : quotes ++ line ≡ a ∷ b ∷ c ∷ line = rw (one, two, three) refl in
         subst (λ (v : List ℕ). BlockReads (92 ∷ 34 ∷ 34 ∷ 34 ∷ block_escaped line) v rest) same
-        (reads_both block_character_len block_character_at escaped_quotes quotes (block_escaped line) line rest (marks_read (block_escaped line ++ rest)) behind)
-    go false e here behind next =
+        (reads_both block_character_len block_character_at escaped_quotes quotes (block_escaped line) line rest (marks_read (block_escaped line ++ rest)) following)
+    go false e here following next =
         reads_both block_character_len block_character_at (a ∷ []) (a ∷ []) (block_escaped (b ∷ c ∷ line)) (b ∷ c ∷ line) rest
         (plain_byte a (block_escaped (b ∷ c ∷ line) ++ rest) (no_marks (b ∷ c ∷ line) rest none) here)
         next

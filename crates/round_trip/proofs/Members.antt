@@ -26,7 +26,7 @@ module _ {P Q X Y Z : Type 0} (m : Meaning P) (r : Rule X) (u : X → Z) (w : Y 
       as_text _ (members_is prefix level (text n.it) (texts_of text ns))
       (ignored _ (break_ignored prefix level white)
       (more {f = ends_word} (AreNodes m r u w (λ y. text y level) (n ∷ ns)) (λ x xs e f. one_more (unplaced_node u x) (unplaced_node w n) _ _ (ap (λ z. unplaced_it z) e) f)
-      (λ behind fine. members_end prefix level (texts_of text ns) behind fine) (placed m this) (members level ns others)))
+      (λ following fine. members_end prefix level (texts_of text ns) following fine) (placed m this) (members level ns others)))
 
   pub some_members : (level : ℕ) (n : Placed Q Y) (ns : List (Placed Q Y)) → EachRead m r u w (λ y. text y level) (n ∷ ns) → Printed (some (rule.placed m r)) (AreNodes m r u w (λ y. text y level) (n ∷ ns)) ends_word (members_text prefix level (texts_of text (n ∷ ns)))
   some_members level n ns all = some_of_many (none_of P X Z u (unplaced_node w n) (map (unplaced_node w) ns)) (members level (n ∷ ns) all)
@@ -36,6 +36,6 @@ module _ {P Q X Y Z : Type 0} (m : Meaning P) (r : Rule X) (u : X → Z) (w : Y 
       → Printed (between is_open_paren (some (rule.placed m r)) is_close_paren) (AreNodes m r u w (λ y. text y (level + 1)) (n ∷ ns)) any (40 ∷ (members_text prefix (level + 1) (texts_of text (n ∷ ns)) ++ (break_text prefix level ++ 41 ∷ [])))
   parenthesized_on_lines level n ns all =
       mapped (λ x. x.1.0) (AreNodes m r u w (λ y. text y (level + 1)) (n ∷ ns)) (λ x said. said.1.0)
-      (seq {f = any} (λ behind fine. refl) open_paren
-      (seq {f = ends_word} (λ behind fine. subst (λ (l : List ℕ). ends_word l ≡ true) (sym (append_assoc (break_text prefix level) (41 ∷ []) behind)) (break_ends prefix level (41 ∷ behind)))
+      (seq {f = any} (λ following fine. refl) open_paren
+      (seq {f = ends_word} (λ following fine. subst (λ (l : List ℕ). ends_word l ≡ true) (sym (append_assoc (break_text prefix level) (41 ∷ []) following)) (break_ends prefix level (41 ∷ following)))
       (some_members (level + 1) n ns all) (ignored (break_text prefix level) (break_ignored prefix level white) close_paren)))

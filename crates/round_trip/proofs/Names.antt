@@ -42,8 +42,8 @@ module _ {P Q : Type 0} (m : Meaning P) (is : Terminal → Bool) (b : ℕ) (sign
       as_text _ (further_is (32 ∷ b ∷ 32 ∷ []) n.it (map name_text ns))
       (ignored (32 ∷ []) refl
       (more {f = ends_word} (AreNames (n ∷ ns)) (λ x xs e f. next_name x.it n.it (map unplaced_text xs) (map unplaced_text ns) e f)
-      (λ behind fine. further_ends 32 (b ∷ 32 ∷ []) (map name_text ns) behind refl fine)
-      (mapped (λ x. x.1) (λ x. x.it ≡ n.it) (λ x said. said.1) (seq {f = any} (λ behind fine. refl) sign (ignored (32 ∷ []) refl (any_name m n.it h1))))
+      (λ following fine. further_ends 32 (b ∷ 32 ∷ []) (map name_text ns) following refl fine)
+      (mapped (λ x. x.1) (λ x. x.it ≡ n.it) (λ x said. said.1) (seq {f = any} (λ following fine. refl) sign (ignored (32 ∷ []) refl (any_name m n.it h1))))
       (further_names ns h2)))
 
   names_end : (ns : List (Text Q)) → ends_word (further_text (32 ∷ b ∷ 32 ∷ []) (map name_text ns)) ≡ true
@@ -56,7 +56,7 @@ module _ {P Q : Type 0} (m : Meaning P) (is : Terminal → Bool) (b : ℕ) (sign
       let (h1, h2) = and_parts (names.is_name n.it) (all_names ns) h in
       as_text _ (ap (λ (l : List ℕ). n.it ++ l) (sym (append-nil (further_text (32 ∷ b ∷ 32 ∷ []) (map name_text ns)))))
       (mapped (λ x. x.1.0 ∷ x.1.1) (AreNames (n ∷ ns)) (λ x said. next_name x.1.0.it n.it (map unplaced_text x.1.1) (map unplaced_text ns) said.1.0 said.1.1)
-      (seq {f = any} (λ behind fine. refl) (left_out (mark is) any) (seq_word (names_end ns) (any_name m n.it h1) (further_names ns h2))))
+      (seq {f = any} (λ following fine. refl) (left_out (mark is) any) (seq_word (names_end ns) (any_name m n.it h1) (further_names ns h2))))
 
 module _ {P Q : Type 0} (m : Meaning P) where
   -- implements A & B
@@ -79,7 +79,7 @@ module _ {P Q : Type 0} (m : Meaning P) where
       (given
       (ignored (32 ∷ []) refl
       (mapped (λ x. x.1) (AreNames (n ∷ ns)) (λ x said. said.1)
-      (seq {f = any} (λ behind fine. refl) equals (ignored (32 ∷ []) refl (separated_names m is_pipe 124 pipe n ns h))))))
+      (seq {f = any} (λ following fine. refl) equals (ignored (32 ∷ []) refl (separated_names m is_pipe 124 pipe n ns h))))))
 
 pub names_text_ends : {Q : Type 0} (front : List ℕ) (sign : List ℕ) (ns : List (Text Q)) → ends_word (names_text (32 ∷ front) sign ns) ≡ true
 unfolding joined

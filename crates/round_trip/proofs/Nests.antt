@@ -36,8 +36,8 @@ token is plain = record {
   at = λ i t o h.
       let b = not_bracket (is_opening t.kind) (is_closing t.kind) (from_apart (next_is is) bracket plain (Some t.kind) h.0) in
       let before : depth i.ahead ≡ depth h.1.0 = ap depth h.1.1 ∙ step t h.1.0 false false b.0 b.1 in
-      let behind : depth o.ahead ≡ depth h.1.0 = ap (λ (z : Input). depth z.ahead) h.1.2 in
-      omega (arith, before, behind);
+      let following : depth o.ahead ≡ depth h.1.0 = ap (λ (z : Input). depth z.ahead) h.1.2 in
+      omega (arith, before, following);
 }
 
 opening_token : (is : Terminal → Bool) → subset (next_is is) (next_is is_opening) ≡ true → (i : Input) (t : Token) (o : Input) → one is i t o → depth i.ahead ≡ depth o.ahead + 1
@@ -92,21 +92,21 @@ unless false n = n
 pub such_that : {A : Type 0} {r : Rule A} {d : A → ℕ} (passes : A → Bool) → Nests r d → Nests (g.such_that passes r) d
 such_that passes n = record { at = λ i x o h. n.at i x o h.0 }
 
-same_behind : (i o : Input) → o ≡ i → depth i.ahead ≡ max 0 (depth o.ahead)
-same_behind i o e = omega (arith, ap (λ (z : Input). depth z.ahead) e)
+same_after : (i o : Input) → o ≡ i → depth i.ahead ≡ max 0 (depth o.ahead)
+same_after i o e = omega (arith, ap (λ (z : Input). depth z.ahead) e)
 
 pub maybe : {A : Type 0} {r : Rule A} {d : A → ℕ} → Nests r d → Nests (optional r) (deep_if_any d)
 maybe {A} {r} {d} n = record { at = λ i x o h. by_case i x o h }
   where
     by_case : (i : Input) (x : Option A) (o : Input) → optional r i x o → depth i.ahead ≡ max (deep_if_any d x) (depth o.ahead)
-    by_case i None o h = same_behind i o h
+    by_case i None o h = same_after i o h
     by_case i (Some x) o h = n.at i x o h
 
 maybe_unless : {A : Type 0} {r : Rule A} {d : A → ℕ} (is : Terminal → Bool) → Nests r d → Nests (optional_unless is r) (deep_if_any d)
 maybe_unless {A} {r} {d} is n = record { at = λ i x o h. by_case i x o h }
   where
     by_case : (i : Input) (x : Option A) (o : Input) → optional_unless is r i x o → depth i.ahead ≡ max (deep_if_any d x) (depth o.ahead)
-    by_case i None o h = same_behind i o h.0
+    by_case i None o h = same_after i o h.0
     by_case i (Some x) o h = n.at i x o h
 
 -- where it is left out it stands for a tree that has no brackets
@@ -134,7 +134,7 @@ located m n = record { at = λ i x o h. n.at i x.it o h.0 }
 
 module _ {A : Type 0} {r : Rule A} {d : A → ℕ} (n : Nests r d) where
   many_at : (xs : List A) (i o : Input) → many r i xs o → depth i.ahead ≡ max (deepest d xs) (depth o.ahead)
-  many_at [] i o h = same_behind i o h
+  many_at [] i o h = same_after i o h
   many_at (x ∷ xs) i o h = omega (arith, n.at i x h.0 h.1, many_at xs h.0 o h.2)
 
   some_at : (xs : List A) (i o : Input) → some r i xs o → depth i.ahead ≡ max (deepest d xs) (depth o.ahead)
@@ -167,10 +167,10 @@ module _ {A : Type 0} {r : Rule A} {d : A → ℕ} (opening closing : Terminal �
         let closed = middle.2 in
         let before = opening_token opening opens i opened.0 h.1.0 opened.1 in
         let within = n.at h.1.0 h.0.1.0 middle.0 middle.1 in
-        let behind = closing_token closing closes middle.0 closed.0 o closed.1 in
+        let following = closing_token closing closes middle.0 closed.0 o closed.1 in
         let more = same h.1.0 h.0.1.0 middle.0 middle.1 in
         let tree : d' y ≡ d' h.0.1.0 = ap d' h.2 in
-        omega (arith, before, within, behind, more, tree);
+        omega (arith, before, within, following, more, tree);
   }
 
   pub enclosed : Nests (between opening r closing) (λ x. suc (d x))

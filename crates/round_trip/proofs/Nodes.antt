@@ -57,13 +57,13 @@ module _ {P Q X Y Z : Type 0} (m : Meaning P) (r : Rule X) (u : X → Z) (w : Y 
         as_text _ (further_is (b ∷ separator) (text n.it) (texts_of text ns))
         (ignored (b ∷ separator) blank
         (more {f = ends_word} (AreNodes (n ∷ ns)) (λ x xs e f. one_more (unplaced_node u x) (unplaced_node w n) _ _ (ap (λ z. unplaced_it z) e) f)
-        (λ behind fine. further_ends b separator (texts_of text ns) behind ends fine) (placed m this) (further_nodes ns others)))
+        (λ following fine. further_ends b separator (texts_of text ns) following ends fine) (placed m this) (further_nodes ns others)))
 
     -- the first without a separator
     pub nodes : (n : Placed Q Y) (ns : List (Placed Q Y)) → EachRead (n ∷ ns) → Printed (some (rule.placed m r)) (AreNodes (n ∷ ns)) ends_word (text n.it ++ further_text (b ∷ separator) (texts_of text ns))
     nodes n ns (this, others) =
         one_or_more {f = ends_word} (AreNodes (n ∷ ns)) (λ x xs e f. one_more (unplaced_node u x) (unplaced_node w n) _ _ (ap (λ z. unplaced_it z) e) f)
-        (λ behind fine. further_ends b separator (texts_of text ns) behind ends fine) (placed m this) (further_nodes ns others)
+        (λ following fine. further_ends b separator (texts_of text ns) following ends fine) (placed m this) (further_nodes ns others)
 
     -- each after a separator, at least one
     pub some_nodes : (n : Placed Q Y) (ns : List (Placed Q Y)) → EachRead (n ∷ ns) → Printed (some (rule.placed m r)) (AreNodes (n ∷ ns)) ends_word (further_text (b ∷ separator) (texts_of text (n ∷ ns)))
@@ -76,7 +76,7 @@ module _ {P Q X Y Z : Type 0} (m : Meaning P) (r : Rule X) (u : X → Z) (w : Y 
   parenthesized n ns all =
       as_text _ (ap (λ (l : List ℕ). 40 ∷ l) (append_assoc (text n.it) (further_text (codes ", ") (texts_of text ns)) (41 ∷ [])))
       (mapped (λ x. x.1.0) (AreNodes (n ∷ ns)) (λ x said. said.1.0)
-      (seq {f = any} (λ behind fine. refl) open_paren (seq {f = ends_word} (λ behind fine. refl) (nodes 44 (32 ∷ []) refl refl n ns all) close_paren)))
+      (seq {f = any} (λ following fine. refl) open_paren (seq {f = ends_word} (λ following fine. refl) (nodes 44 (32 ∷ []) refl refl n ns all) close_paren)))
 
 module _ {P X Z : Type 0} (u : X → Z) where
   -- nodes, ignoring places; if there are none, they are left out

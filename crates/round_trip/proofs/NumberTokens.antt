@@ -7,7 +7,7 @@ use Rattle.std.proofs.lemmas.Grind.{common_steps}
 use Rattle.graphql_names.specs.NameSyntax.{is_name_start, is_name_continue}
 use Rattle.read_operations.specs.in_literals.NumberSyntax.{is_digits, is_nothing, has_leading_zero, is_natural, without_minus, without_sign, is_int_value, is_fraction, is_exponent, followed_by, is_float_tail, is_float_value}
 use Rattle.read_operations.specs.in_tokens.Bytes.{begins_by}
-use Rattle.read_operations.specs.in_tokens.Numbers.{is_point, sign_len, whole_len, digits_behind, fraction_len, is_exponent_mark, is_sign, exponent_len, goes_on, number_kind, number_at}
+use Rattle.read_operations.specs.in_tokens.Numbers.{is_point, sign_len, whole_len, digits_after, fraction_len, is_exponent_mark, is_sign, exponent_len, goes_on, number_kind, number_at}
 use Rattle.read_operations.specs.in_tokens.Tokens.{token_at}
 use Rattle.read_operations.specs.in_tokens.declared.token.TokenKind.{TokenKind}
 use Rattle.read_operations.specs.in_tokens.declared.token.TokenKind.TheVariants as t
@@ -17,11 +17,11 @@ use Rattle.round_trip.proofs.Tokens.{drop_front, whole_run}
 
 -- ---- what follows a number
 
-record Ends (behind : List ℕ) : Type 0 where
-  goes : begins_by goes_on behind ≡ false
-  digit : begins_by is_ascii_digit behind ≡ false
-  point : begins_by is_point behind ≡ false
-  mark : begins_by is_exponent_mark behind ≡ false
+record Ends (following : List ℕ) : Type 0 where
+  goes : begins_by goes_on following ≡ false
+  digit : begins_by is_ascii_digit following ≡ false
+  point : begins_by is_point following ≡ false
+  mark : begins_by is_exponent_mark following ≡ false
 
 -- where one passes and the other does not, they are two
 apart_from : (p : ℕ → Bool) (b c : ℕ) → p c ≡ true → p b ≡ false → (b == c) ≡ false
@@ -35,9 +35,9 @@ neither : (x y : Bool) → not (x || y) ≡ true → x ≡ false
 neither true y h = absurd cc
 neither false y h = refl
 
-number_ends : (behind : List ℕ) → ends_word behind ≡ true → Ends behind
+number_ends : (following : List ℕ) → ends_word following ≡ true → Ends following
 number_ends [] h = record { goes = refl; digit = refl; point = refl; mark = refl }
-number_ends (b ∷ behind) h =
+number_ends (b ∷ following) h =
     let goes : goes_on b ≡ false = neither (goes_on b) (b == 34) h in
     let (continues, point) = or_parts (is_name_continue b) (b == 46) goes in
     let (start, digit) = or_parts (is_name_start b) (is_ascii_digit b) continues in
@@ -58,9 +58,9 @@ digits_run : (ds rest : List ℕ) → is_digits ds ≡ true → begins_by is_asc
 digits_run [] rest h none = absurd cc
 digits_run (d ∷ ds) rest h none = whole_run is_ascii_digit (d ∷ ds) rest h none
 
-behind_digits : (n : ℕ) (bytes ds rest : List ℕ) → drop n bytes ≡ ds ++ rest → is_digits ds ≡ true → begins_by is_ascii_digit rest ≡ false → digits_behind n bytes ≡ Some (n + length ds)
-unfolding digits_behind
-behind_digits n bytes ds rest is h none = rw is (rw (digits_begin ds rest h) (rw (digits_run ds rest h none) refl))
+after_digits : (n : ℕ) (bytes ds rest : List ℕ) → drop n bytes ≡ ds ++ rest → is_digits ds ≡ true → begins_by is_ascii_digit rest ≡ false → digits_after n bytes ≡ Some (n + length ds)
+unfolding digits_after
+after_digits n bytes ds rest is h none = rw is (rw (digits_begin ds rest h) (rw (digits_run ds rest h none) refl))
 
 -- ---- the integer part
 
@@ -94,7 +94,7 @@ unfolding fraction_len
 fraction_there [] rest h none = absurd cc
 fraction_there (c ∷ ds) rest h none =
     let (point, digits) = and_parts (c == 46) (is_digits ds) h in
-    rw point (behind_digits 1 (c ∷ (ds ++ rest)) ds rest refl digits none ∙ ap (λ (n : ℕ). Some n) (one-add (length ds)))
+    rw point (after_digits 1 (c ∷ (ds ++ rest)) ds rest refl digits none ∙ ap (λ (n : ℕ). Some n) (one-add (length ds)))
 
 fraction_front : (text rest : List ℕ) → is_fraction text ≡ true → begins_by is_ascii_digit (text ++ rest) ≡ false
 fraction_front [] rest h = absurd cc
@@ -112,13 +112,13 @@ exchanged true false h = refl
 exchanged false true h = refl
 exchanged false false h = absurd cc
 
-signed_digits : (c : ℕ) (cs rest : List ℕ) → is_digits (without_sign cs) ≡ true → begins_by is_ascii_digit rest ≡ false → digits_behind (cond (begins_by is_sign (cs ++ rest)) 2 1) (c ∷ (cs ++ rest)) ≡ Some (length (c ∷ cs))
+signed_digits : (c : ℕ) (cs rest : List ℕ) → is_digits (without_sign cs) ≡ true → begins_by is_ascii_digit rest ≡ false → digits_after (cond (begins_by is_sign (cs ++ rest)) 2 1) (c ∷ (cs ++ rest)) ≡ Some (length (c ∷ cs))
 signed_digits c [] rest h none = absurd cc
 signed_digits c (b ∷ cs) rest h none = go (is_sign b) h
   where
-    go : (s : Bool) → is_digits (cond s cs (b ∷ cs)) ≡ true → digits_behind (cond s 2 1) (c ∷ b ∷ (cs ++ rest)) ≡ Some (length (c ∷ b ∷ cs))
-    go true h = behind_digits 2 (c ∷ b ∷ (cs ++ rest)) cs rest refl h none ∙ ap (λ (n : ℕ). Some n) (omega arith)
-    go false h = behind_digits 1 (c ∷ b ∷ (cs ++ rest)) (b ∷ cs) rest refl h none ∙ ap (λ (n : ℕ). Some n) (omega arith)
+    go : (s : Bool) → is_digits (cond s cs (b ∷ cs)) ≡ true → digits_after (cond s 2 1) (c ∷ b ∷ (cs ++ rest)) ≡ Some (length (c ∷ b ∷ cs))
+    go true h = after_digits 2 (c ∷ b ∷ (cs ++ rest)) cs rest refl h none ∙ ap (λ (n : ℕ). Some n) (omega arith)
+    go false h = after_digits 1 (c ∷ b ∷ (cs ++ rest)) (b ∷ cs) rest refl h none ∙ ap (λ (n : ℕ). Some n) (omega arith)
 
 exponent_there : (text rest : List ℕ) → is_exponent text ≡ true → begins_by is_ascii_digit rest ≡ false → exponent_len (text ++ rest) ≡ Some (length text)
 unfolding exponent_len
@@ -179,23 +179,23 @@ sign_before sign (b ∷ bytes) signs h = go sign signs (apart_from (λ c. not (i
     go sign (inr is) other = rw is (refl, refl)
 
 -- a number of these parts, before what follows it
-parts_token : (sign whole fraction exponent behind : List ℕ) → (sign ≡ []) ⊎ (sign ≡ 45 ∷ []) → is_natural whole ≡ true → begins_by is_ascii_digit (fraction ++ (exponent ++ behind)) ≡ false
-    → fraction_len (fraction ++ (exponent ++ behind)) ≡ Some (length fraction) → exponent_len (exponent ++ behind) ≡ Some (length exponent) → begins_by goes_on behind ≡ false
-    → token_at (sign ++ (whole ++ (fraction ++ (exponent ++ behind))))
+parts_token : (sign whole fraction exponent following : List ℕ) → (sign ≡ []) ⊎ (sign ≡ 45 ∷ []) → is_natural whole ≡ true → begins_by is_ascii_digit (fraction ++ (exponent ++ following)) ≡ false
+    → fraction_len (fraction ++ (exponent ++ following)) ≡ Some (length fraction) → exponent_len (exponent ++ following) ≡ Some (length exponent) → begins_by goes_on following ≡ false
+    → token_at (sign ++ (whole ++ (fraction ++ (exponent ++ following))))
     ≡ Some (number_kind (length sign + length whole) (length sign + length whole + length fraction + length exponent), length sign + length whole + length fraction + length exponent)
-parts_token sign whole fraction exponent behind signs natural none hf he hb =
-    let behind_whole = fraction ++ (exponent ++ behind) in
-    let bytes = sign ++ (whole ++ behind_whole) in
+parts_token sign whole fraction exponent following signs natural none hf he hb =
+    let after_whole = fraction ++ (exponent ++ following) in
+    let bytes = sign ++ (whole ++ after_whole) in
     let s : ℕ = length sign in
     let w : ℕ = length whole in
     let f : ℕ = length fraction in
-    let front = sign_before sign (whole ++ behind_whole) signs (digits_begin whole behind_whole (natural_digits whole natural)) in
-    let one : drop s bytes ≡ whole ++ behind_whole = drop_front sign (whole ++ behind_whole) in
-    let two : drop (s + w) bytes ≡ behind_whole = drop_more s bytes whole behind_whole one in
-    let three : drop (s + w + f) bytes ≡ exponent ++ behind = drop_more (s + w) bytes fraction (exponent ++ behind) two in
-    let four : drop (s + w + f + length exponent) bytes ≡ behind = drop_more (s + w + f) bytes exponent behind three in
+    let front = sign_before sign (whole ++ after_whole) signs (digits_begin whole after_whole (natural_digits whole natural)) in
+    let one : drop s bytes ≡ whole ++ after_whole = drop_front sign (whole ++ after_whole) in
+    let two : drop (s + w) bytes ≡ after_whole = drop_more s bytes whole after_whole one in
+    let three : drop (s + w + f) bytes ≡ exponent ++ following = drop_more (s + w) bytes fraction (exponent ++ following) two in
+    let four : drop (s + w + f + length exponent) bytes ≡ following = drop_more (s + w + f) bytes exponent following three in
     number_token bytes front.1
-    ∙ number_found bytes s w f (length exponent) front.0 (ap whole_len one ∙ natural_len whole behind_whole natural none) (ap fraction_len two ∙ hf) (ap exponent_len three ∙ he) (ap (begins_by goes_on) four ∙ hb)
+    ∙ number_found bytes s w f (length exponent) front.0 (ap whole_len one ∙ natural_len whole after_whole natural none) (ap fraction_len two ∙ hf) (ap exponent_len three ∙ he) (ap (begins_by goes_on) four ∙ hb)
 
 abbrev a_token : TokenKind → ℕ → Option (TokenKind × ℕ)
 a_token kind n = Some (kind, n)
@@ -205,17 +205,17 @@ same_token kind wanted n m e f = rw e (rw f refl)
 
 -- ---- Int
 
-pub int_token : (text behind : List ℕ) → is_int_value text ≡ true → ends_word behind ≡ true → token_at (text ++ behind) ≡ Some (t.Int, length text)
-int_token text behind h fine =
-    let ends = number_ends behind fine in
+pub int_token : (text following : List ℕ) → is_int_value text ≡ true → ends_word following ≡ true → token_at (text ++ following) ≡ Some (t.Int, length text)
+int_token text following h fine =
+    let ends = number_ends following fine in
     let parts = signed text in
     let sign = parts.sign in
     let whole = without_minus text in
     let size : length text ≡ length sign + length whole = ap length parts.is ∙ length-append sign whole in
     let all : length sign + length whole ≡ length sign + length whole + 0 + 0 = omega arith in
-    ap (λ (l : List ℕ). token_at (l ++ behind)) parts.is
-    ∙ ap token_at (append_assoc sign whole behind)
-    ∙ parts_token sign whole [] [] behind parts.signs h ends.digit (fraction_none behind ends.point) (exponent_none behind ends.mark) ends.goes
+    ap (λ (l : List ℕ). token_at (l ++ following)) parts.is
+    ∙ ap token_at (append_assoc sign whole following)
+    ∙ parts_token sign whole [] [] following parts.signs h ends.digit (fraction_none following ends.point) (exponent_none following ends.mark) ends.goes
     ∙ same_token _ t.Int _ (length text) (ap (λ (b : Bool). cond b t.Int t.Float) (eq-eqb (length sign + length whole) (length sign + length whole + 0 + 0) all)) (omega arith)
 
 -- ---- Float
@@ -242,14 +242,14 @@ split p q (c ∷ cs) h = elim (or_cases (p [] && q (c ∷ cs)) (followed_by (λ 
 ]
 
 -- what follows the integer part: a fraction, an exponent, or both
-record Tail (text behind : List ℕ) : Type 0 where
+record Tail (text following : List ℕ) : Type 0 where
   fraction : List ℕ
   exponent : List ℕ
   is : text ≡ fraction ++ exponent
   some : 0 < length fraction + length exponent
-  none : begins_by is_ascii_digit (fraction ++ (exponent ++ behind)) ≡ false
-  fraction_reaches : fraction_len (fraction ++ (exponent ++ behind)) ≡ Some (length fraction)
-  exponent_reaches : exponent_len (exponent ++ behind) ≡ Some (length exponent)
+  none : begins_by is_ascii_digit (fraction ++ (exponent ++ following)) ≡ false
+  fraction_reaches : fraction_len (fraction ++ (exponent ++ following)) ≡ Some (length fraction)
+  exponent_reaches : exponent_len (exponent ++ following) ≡ Some (length exponent)
 
 fraction_some : (text : List ℕ) → is_fraction text ≡ true → 0 < length text
 fraction_some [] h = absurd cc
@@ -259,8 +259,8 @@ exponent_some : (text : List ℕ) → is_exponent text ≡ true → 0 < length t
 exponent_some [] h = absurd cc
 exponent_some (c ∷ cs) h = omega arith
 
-tail : (text behind : List ℕ) → is_float_tail text ≡ true → Ends behind → Tail text behind
-tail text behind h ends = elim (or_cases (is_fraction text) (is_exponent text || followed_by is_fraction is_exponent text) h) [
+tail : (text following : List ℕ) → is_float_tail text ≡ true → Ends following → Tail text following
+tail text following h ends = elim (or_cases (is_fraction text) (is_exponent text || followed_by is_fraction is_exponent text) h) [
   | inl fraction ↦
       let some = fraction_some text fraction in
       record {
@@ -268,22 +268,22 @@ tail text behind h ends = elim (or_cases (is_fraction text) (is_exponent text ||
         exponent = [];
         is = sym (append-nil text);
         some = omega arith;
-        none = fraction_front text behind fraction;
-        fraction_reaches = fraction_there text behind fraction ends.digit;
-        exponent_reaches = exponent_none behind ends.mark;
+        none = fraction_front text following fraction;
+        fraction_reaches = fraction_there text following fraction ends.digit;
+        exponent_reaches = exponent_none following ends.mark;
       }
   | inr others ↦ elim (or_cases (is_exponent text) (followed_by is_fraction is_exponent text) others) [
     | inl exponent ↦
         let some = exponent_some text exponent in
-        let front = exponent_front text behind exponent in
+        let front = exponent_front text following exponent in
         record {
           fraction = [];
           exponent = text;
           is = refl;
           some = omega arith;
           none = front.0;
-          fraction_reaches = fraction_none (text ++ behind) front.1;
-          exponent_reaches = exponent_there text behind exponent ends.digit;
+          fraction_reaches = fraction_none (text ++ following) front.1;
+          exponent_reaches = exponent_there text following exponent ends.digit;
         }
     | inr both ↦
         let s = split is_fraction is_exponent text both in
@@ -293,9 +293,9 @@ tail text behind h ends = elim (or_cases (is_fraction text) (is_exponent text ||
           exponent = s.two;
           is = s.is;
           some = omega arith;
-          none = fraction_front s.one (s.two ++ behind) s.first;
-          fraction_reaches = fraction_there s.one (s.two ++ behind) s.first (exponent_front s.two behind s.second).0;
-          exponent_reaches = exponent_there s.two behind s.second ends.digit;
+          none = fraction_front s.one (s.two ++ following) s.first;
+          fraction_reaches = fraction_there s.one (s.two ++ following) s.first (exponent_front s.two following s.second).0;
+          exponent_reaches = exponent_there s.two following s.second ends.digit;
         }
   ]
 ]
@@ -307,12 +307,12 @@ longer n m h = go (n == m) refl
     go false e = refl
     go true e = let is : n ≡ m = eqb-true n m e in absurd (omega arith)
 
-pub float_token : (text behind : List ℕ) → is_float_value text ≡ true → ends_word behind ≡ true → token_at (text ++ behind) ≡ Some (t.Float, length text)
-float_token text behind h fine =
-    let ends = number_ends behind fine in
+pub float_token : (text following : List ℕ) → is_float_value text ≡ true → ends_word following ≡ true → token_at (text ++ following) ≡ Some (t.Float, length text)
+float_token text following h fine =
+    let ends = number_ends following fine in
     let parts = signed text in
     let s = split is_natural is_float_tail (without_minus text) h in
-    let rest = tail s.two behind s.second ends in
+    let rest = tail s.two following s.second ends in
     let sign = parts.sign in
     let whole = s.one in
     let fraction = rest.fraction in
@@ -323,11 +323,11 @@ float_token text behind h fine =
     let size3 : length (fraction ++ exponent) ≡ length fraction + length exponent = length-append fraction exponent in
     let some = rest.some in
     let more : length sign + length whole < length sign + length whole + length fraction + length exponent = omega arith in
-    ap (λ (l : List ℕ). token_at (l ++ behind)) is
-    ∙ ap token_at (append_assoc sign (whole ++ (fraction ++ exponent)) behind)
-    ∙ ap (λ (l : List ℕ). token_at (sign ++ l)) (append_assoc whole (fraction ++ exponent) behind)
-    ∙ ap (λ (l : List ℕ). token_at (sign ++ (whole ++ l))) (append_assoc fraction exponent behind)
-    ∙ parts_token sign whole fraction exponent behind parts.signs s.first rest.none rest.fraction_reaches rest.exponent_reaches ends.goes
+    ap (λ (l : List ℕ). token_at (l ++ following)) is
+    ∙ ap token_at (append_assoc sign (whole ++ (fraction ++ exponent)) following)
+    ∙ ap (λ (l : List ℕ). token_at (sign ++ l)) (append_assoc whole (fraction ++ exponent) following)
+    ∙ ap (λ (l : List ℕ). token_at (sign ++ (whole ++ l))) (append_assoc fraction exponent following)
+    ∙ parts_token sign whole fraction exponent following parts.signs s.first rest.none rest.fraction_reaches rest.exponent_reaches ends.goes
     ∙ same_token _ t.Float _ (length text) (ap (λ (b : Bool). cond b t.Int t.Float) (longer (length sign + length whole) (length sign + length whole + length fraction + length exponent) more)) (omega arith)
 
 pub numbers_read : NumbersRead

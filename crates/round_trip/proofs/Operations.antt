@@ -110,8 +110,8 @@ module _ {P Q : Type 0} (m : Meaning P) (lits : LiteralsRead m.string) where
       let end1 : ends_word (directives_text v.it.directives ++ []) ≡ true = ends_before (directives_text v.it.directives) [] (directives_end m lits v.it.directives) refl in
       let end2 : ends_word (default_text v.it.default_value ++ (directives_text v.it.directives ++ [])) ≡ true = ends_before (default_text v.it.default_value) (directives_text v.it.directives ++ []) (default_ends v.it.default_value) end1 in
       mapped variable_definition_of (λ x. unplaced_variable_definition x ≡ unplaced_variable_definition v.it) (λ x said. one_variable _ _ _ _ _ _ _ _ said.0 said.1.1.0 said.1.1.1.0 said.1.1.1.1)
-      (seq {f = ends_word} (λ behind fine. refl) (variable_alone m v.it.name.it h1)
-      (seq {f = any} (λ behind fine. refl) colon
+      (seq {f = ends_word} (λ following fine. refl) (variable_alone m v.it.name.it h1)
+      (seq {f = any} (λ following fine. refl) colon
       (ignored (32 ∷ []) refl
       (seq_word end2 (placed m (type_read m v.it.ty.it n h2 (omega arith)))
       (seq_word end1 (default_read m lits v.it.default_value n h3 w1 (omega arith))

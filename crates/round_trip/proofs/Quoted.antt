@@ -116,20 +116,20 @@ quoted_value text =
 
 -- ---- the token
 
-ends_at_mark : (behind : List ℕ) → run_len part_len 0 (34 ∷ behind) ≡ 0
+ends_at_mark : (following : List ℕ) → run_len part_len 0 (34 ∷ following) ≡ 0
 unfolding part_len
-ends_at_mark behind = run_end part_len (34 ∷ behind) refl
+ends_at_mark following = run_end part_len (34 ∷ following) refl
 
-escaped_length : (text behind : List ℕ) → run_len part_len 0 (escaped_text text ++ 34 ∷ behind) ≡ length (escaped_text text)
-escaped_length text behind =
-    let all = (escaped_reads text (34 ∷ behind)).passed in
-    let end = ends_at_mark behind in
+escaped_length : (text following : List ℕ) → run_len part_len 0 (escaped_text text ++ 34 ∷ following) ≡ length (escaped_text text)
+escaped_length text following =
+    let all = (escaped_reads text (34 ∷ following)).passed in
+    let end = ends_at_mark following in
     omega arith
 
-quoted_reach : (text behind : List ℕ) → quoted_len (34 ∷ (escaped_text text ++ 34 ∷ behind)) ≡ Some (length (quoted_text text))
+quoted_reach : (text following : List ℕ) → quoted_len (34 ∷ (escaped_text text ++ 34 ∷ following)) ≡ Some (length (quoted_text text))
 unfolding quoted_len
-quoted_reach text behind =
-    closed (34 ∷ []) (escaped_text text) behind (run_len part_len 0 (escaped_text text ++ 34 ∷ behind)) (escaped_length text behind)
+quoted_reach text following =
+    closed (34 ∷ []) (escaped_text text) following (run_len part_len 0 (escaped_text text ++ 34 ∷ following)) (escaped_length text following)
     ∙ ap (λ (t : List ℕ). Some (length t)) (sym (quoted_is text))
 
 -- no escape begins with a quotation mark
@@ -137,12 +137,12 @@ escaped_begins : (b : ℕ) (rest : List ℕ) → NoMark (escaped_byte b ++ rest)
 unfolding joined
 escaped_begins b rest = grind (arith, common_steps)
 
-no_block : (text behind : List ℕ) → MayFollow text behind → begins_with quotes (34 ∷ (escaped_text text ++ 34 ∷ behind)) ≡ false
+no_block : (text following : List ℕ) → MayFollow text following → begins_with quotes (34 ∷ (escaped_text text ++ 34 ∷ following)) ≡ false
 unfolding joined
-no_block [] behind h = h refl
-no_block (b ∷ text) behind h =
-    ap (begins_with (34 ∷ 34 ∷ [])) (append_assoc (escaped_byte b) (escaped_text text) (34 ∷ behind))
-    ∙ none_begin (escaped_byte b ++ (escaped_text text ++ 34 ∷ behind)) (34 ∷ []) (escaped_begins b (escaped_text text ++ 34 ∷ behind))
+no_block [] following h = h refl
+no_block (b ∷ text) following h =
+    ap (begins_with (34 ∷ 34 ∷ [])) (append_assoc (escaped_byte b) (escaped_text text) (34 ∷ following))
+    ∙ none_begin (escaped_byte b ++ (escaped_text text ++ 34 ∷ following)) (34 ∷ []) (escaped_begins b (escaped_text text ++ 34 ∷ following))
 
 string_found : (bytes : List ℕ) → token_at (34 ∷ bytes) ≡ string_at (34 ∷ bytes)
 unfolding token_at
@@ -150,11 +150,11 @@ string_found bytes = refl
 
 -- What is printed between quotation marks is one String token, whatever follows it; but two quotation marks alone are one only if
 -- no third follows.
-pub quoted_is_token : (text behind : List ℕ) → MayFollow text behind → IsToken k.String (quoted_text text) behind
+pub quoted_is_token : (text following : List ℕ) → MayFollow text following → IsToken k.String (quoted_text text) following
 unfolding string_at
-quoted_is_token text behind h =
-    ap (λ (t : List ℕ). token_at (t ++ behind)) (quoted_is text)
-    ∙ ap (λ (t : List ℕ). token_at (34 ∷ t)) (append_assoc (escaped_text text) (34 ∷ []) behind)
-    ∙ string_found (escaped_text text ++ 34 ∷ behind)
-    ∙ ap (λ (t : Bool). cond t (of_kind k.BlockString (block_len (34 ∷ (escaped_text text ++ 34 ∷ behind)))) (of_kind k.String (quoted_len (34 ∷ (escaped_text text ++ 34 ∷ behind))))) (no_block text behind h)
-    ∙ ap (of_kind k.String) (quoted_reach text behind)
+quoted_is_token text following h =
+    ap (λ (t : List ℕ). token_at (t ++ following)) (quoted_is text)
+    ∙ ap (λ (t : List ℕ). token_at (34 ∷ t)) (append_assoc (escaped_text text) (34 ∷ []) following)
+    ∙ string_found (escaped_text text ++ 34 ∷ following)
+    ∙ ap (λ (t : Bool). cond t (of_kind k.BlockString (block_len (34 ∷ (escaped_text text ++ 34 ∷ following)))) (of_kind k.String (quoted_len (34 ∷ (escaped_text text ++ 34 ∷ following))))) (no_block text following h)
+    ∙ ap (of_kind k.String) (quoted_reach text following)

@@ -80,12 +80,12 @@ indented_in_line start [] s h = refl
 indented_in_line start (x ∷ line) s h = all_both is_in_line start (x ∷ line) s h
 
 -- after a line, the lines as they are written and the line of the last marks
-lines_behind : (start line : List ℕ) (lines : List (List ℕ)) → in_line start ≡ true → in_line line ≡ true → list_all in_line lines ≡ true → lines_of (line ++ raw_of start lines) ≡ line ∷ (map (indented start) lines ++ start ∷ [])
-lines_behind start line [] s h all = line_more line start h ∙ ap (λ (ls : List (List ℕ)). line ∷ ls) (line_last start s)
-lines_behind start line (next ∷ lines) s h all =
+lines_after : (start line : List ℕ) (lines : List (List ℕ)) → in_line start ≡ true → in_line line ≡ true → list_all in_line lines ≡ true → lines_of (line ++ raw_of start lines) ≡ line ∷ (map (indented start) lines ++ start ∷ [])
+lines_after start line [] s h all = line_more line start h ∙ ap (λ (ls : List (List ℕ)). line ∷ ls) (line_last start s)
+lines_after start line (next ∷ lines) s h all =
     let parts = and_parts (in_line next) (list_all in_line lines) all in
     line_more line (indented start next ++ raw_of start lines) h
-    ∙ ap (λ (ls : List (List ℕ)). line ∷ ls) (lines_behind start (indented start next) lines s (indented_in_line start next s parts.0) parts.1)
+    ∙ ap (λ (ls : List (List ℕ)). line ∷ ls) (lines_after start (indented start next) lines s (indented_in_line start next s parts.0) parts.1)
 
 pub raw_lines : (start : List ℕ) (lines : List (List ℕ)) → in_line start ≡ true → list_all in_line lines ≡ true → lines_of (raw_of start lines) ≡ [] ∷ (map (indented start) lines ++ start ∷ [])
-raw_lines start lines s all = lines_behind start [] lines s refl all
+raw_lines start lines s all = lines_after start [] lines s refl all

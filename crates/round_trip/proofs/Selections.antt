@@ -83,12 +83,12 @@ module _ {P Q : Type 0} (m : Meaning P) (lits : LiteralsRead m.string) where
   alias_read : {B : Type 0} {s : Rule B} {tells : B → Type 0} {f : Follow} {b : List ℕ} (a : Option (Text Q)) → name_well_formed a ≡ true → Printed s tells f b → Printed (optional (alias m) · s) (λ x. IsAnyName (option_map unplaced_text a) x.0 × tells x.1) f (alias_text a ++ b)
   unfolding joined
   alias_read {B} {s} {tells} {f} {b} None h p =
-      seq {f = any} (λ behind fine. refl) (saying (IsAnyName None) (λ o e. ap (λ (l : Option (Text P)). option_map unplaced_text l) e) (left_out (alias m) any)) p
+      seq {f = any} (λ following fine. refl) (saying (IsAnyName None) (λ o e. ap (λ (l : Option (Text P)). option_map unplaced_text l) e) (left_out (alias m) any)) p
   alias_read {B} {s} {tells} {f} {b} (Some n) h p =
       as_text _ (append_assoc n.it (58 ∷ []) (32 ∷ b) ∙ sym (append_assoc n.it (58 ∷ 32 ∷ []) b))
-      (seq {f = any} (λ behind fine. refl)
+      (seq {f = any} (λ following fine. refl)
       (saying (IsAnyName (Some (unplaced_text n))) (λ o e. some_name o e.0 n.it e.1 e.2)
-      (given (mapped (λ x. x.0) (λ x. x.it ≡ n.it) (λ x said. said.0) (seq {f = ends_word} (λ behind fine. refl) (any_name m n.it h) colon))))
+      (given (mapped (λ x. x.0) (λ x. x.it ≡ n.it) (λ x said. said.0) (seq {f = ends_word} (λ following fine. refl) (any_name m n.it h) colon))))
       (ignored (32 ∷ []) refl p))
 
   -- on condition
@@ -100,7 +100,7 @@ module _ {P Q : Type 0} (m : Meaning P) (lits : LiteralsRead m.string) where
       (given
       (ignored (32 ∷ []) refl
       (mapped (λ x. x.1) (λ x. x.it ≡ n.it) (λ x said. said.1)
-      (seq {f = ends_word} (λ behind fine. refl) (keyword is_on (codes "on") refl refl) (ignored (32 ∷ []) refl (nothing_more (any_name m n.it h)))))))
+      (seq {f = ends_word} (λ following fine. refl) (keyword is_on (codes "on") refl refl) (ignored (32 ∷ []) refl (nothing_more (any_name m n.it h)))))))
 
   condition_ends : (c : Option (Text Q)) → ends_word (condition_text c) ≡ true
   unfolding joined
@@ -137,7 +137,7 @@ module _ {P Q : Type 0} (m : Meaning P) (lits : LiteralsRead m.string) where
   spread_read n p x ds h1 w1 h2 w2 le =
       mapped spread_of (IsSelection (unplaced_selection (SpreadTree p x ds))) (λ y said. one_spread _ _ _ _ said.1.0 said.1.1)
       (placed m
-      (seq {f = any} (λ behind fine. refl) spread
+      (seq {f = any} (λ following fine. refl) spread
       (seq_word (ends_before (directives_text ds) [] (directives_end m lits ds) refl) (named m is_fragment_name x.it h1 (spelled_fragment x.it w1))
       (nothing_more (directives_read m lits with_variables ds n h2 w2 le)))))
 
@@ -150,7 +150,7 @@ module _ {P Q : Type 0} (m : Meaning P) (lits : LiteralsRead m.string) where
       let end2 : ends_word (tail_of (directives_text ds) text) ≡ true = ends_before (directives_text ds) (text ++ []) (directives_end m lits ds) end1 in
       mapped inline_of (IsSelection (unplaced_selection (InlineTree p c ds ts))) (λ y said. one_inline _ _ _ _ _ _ said.1.0 said.1.1.0 said.1.1.1)
       (placed m
-      (seq {f = any} (λ behind fine. refl) spread
+      (seq {f = any} (λ following fine. refl) spread
       (seq_word end2 (condition_read c h1)
       (seq_word end1 (directives_read m lits with_variables ds n h2 w2 le)
       (nothing_more q)))))
@@ -202,7 +202,7 @@ module _ {P Q : Type 0} (m : Meaning P) (lits : LiteralsRead m.string) where
       as_text _ (members_is prefix level (selection_text prefix x) (selection_texts prefix ts))
       (ignored _ (break_ignored prefix level white)
       (more {f = ends_word} (AreSelections (unplaced_selections (selection_then x ts))) (λ y ys e f. one_selection (unplaced_selection y) (unplaced_selection x) (unplaced_selections (selections_of ys)) (unplaced_selections ts) e f)
-      (λ behind fine. members_end prefix level (selection_texts prefix ts) behind fine) p q))
+      (λ following fine. members_end prefix level (selection_texts prefix ts) following fine) p q))
 
   module _ (prefix : Prefix) (white : is_white_prefix prefix ≡ true) where
     mutual
@@ -250,4 +250,4 @@ module _ {P Q : Type 0} (m : Meaning P) (lits : LiteralsRead m.string) where
         (as_text _ (ap (λ (l : List ℕ). selection_text prefix t level ++ l) (sym (append-nil others)))
         (mapped selections_of (IsSet (unplaced_selections (selection_then t ts))) (λ xs said. said)
         (one_or_more {f = ends_word} (AreSelections (unplaced_selections (selection_then t ts))) (λ y ys e f. one_selection (unplaced_selection y) (unplaced_selection t) (unplaced_selections (selections_of ys)) (unplaced_selections ts) e f)
-        (λ behind fine. members_end prefix level (selection_texts prefix ts) behind fine) (selection_read t n level h1 w1 (omega arith)) (selections_read ts n level h2 w2 (omega arith)))))
+        (λ following fine. members_end prefix level (selection_texts prefix ts) following fine) (selection_read t n level h1 w1 (omega arith)) (selections_read ts n level h2 w2 (omega arith)))))

@@ -13,9 +13,9 @@ use Rattle.round_trip.specs.Printed.{Follow, any, ends_word, LexesAt, before, Pr
 -- ---- what follows
 
 -- what ends a word, before what ends a word
-pub ends_before : (text behind : List ℕ) → ends_word text ≡ true → ends_word behind ≡ true → ends_word (text ++ behind) ≡ true
-ends_before [] behind h k = k
-ends_before (b ∷ text) behind h k = h
+pub ends_before : (text following : List ℕ) → ends_word text ≡ true → ends_word following ≡ true → ends_word (text ++ following) ≡ true
+ends_before [] following h k = k
+ends_before (b ∷ text) following h k = h
 
 -- ---- the same text, and less said
 
@@ -28,8 +28,8 @@ module _ {A : Type 0} {r : Rule A} {says : A → Type 0} {f : Follow} {a : List 
 
   pub saying : (other : A → Type 0) → ((x : A) → says x → other x) → Printed r says f a → Printed r other f a
   saying other tells p = record {
-    stands = λ behind at others fine lexed.
-        let b = p.stands behind at others fine lexed in
+    stands = λ following at others fine lexed.
+        let b = p.stands following at others fine lexed in
         record {
           tokens = b.tokens;
           lexed = b.lexed;
@@ -39,28 +39,28 @@ module _ {A : Type 0} {r : Rule A} {says : A → Type 0} {f : Follow} {a : List 
 
   -- what may come before anything
   pub before_any : Printed r says any a → Printed r says f a
-  before_any p = record { stands = λ behind at others fine lexed. p.stands behind at others refl lexed }
+  before_any p = record { stands = λ following at others fine lexed. p.stands following at others refl lexed }
 
-  pub before_less : (g : Follow) → ((behind : List ℕ) → g behind ≡ true → f behind ≡ true) → Printed r says f a → Printed r says g a
-  before_less g meets p = record { stands = λ behind at others fine lexed. p.stands behind at others (meets behind fine) lexed }
+  pub before_less : (g : Follow) → ((following : List ℕ) → g following ≡ true → f following ≡ true) → Printed r says f a → Printed r says g a
+  before_less g meets p = record { stands = λ following at others fine lexed. p.stands following at others (meets following fine) lexed }
 
 -- ---- one rule after the other
 
-moved : (at : ℕ) (a b behind : List ℕ) (others : List Token) → LexesAt (at + length (a ++ b)) behind others → LexesAt ((at + length a) + length b) behind others
-moved at a b behind others l =
+moved : (at : ℕ) (a b following : List ℕ) (others : List Token) → LexesAt (at + length (a ++ b)) following others → LexesAt ((at + length a) + length b) following others
+moved at a b following others l =
     let size : length (a ++ b) ≡ length a + length b = length-append a b in
     let same : at + length (a ++ b) ≡ (at + length a) + length b = omega arith in
-    subst (λ (i : ℕ). LexesAt i behind others) same l
+    subst (λ (i : ℕ). LexesAt i following others) same l
 
 module _ {A B : Type 0} {r : Rule A} {s : Rule B} {says : A → Type 0} {tells : B → Type 0} {f g : Follow} {a b : List ℕ} where
-  pub seq : ((behind : List ℕ) → g behind ≡ true → f (b ++ behind) ≡ true) → Printed r says f a → Printed s tells g b → Printed (r · s) (λ x. says x.0 × tells x.1) g (a ++ b)
+  pub seq : ((following : List ℕ) → g following ≡ true → f (b ++ following) ≡ true) → Printed r says f a → Printed s tells g b → Printed (r · s) (λ x. says x.0 × tells x.1) g (a ++ b)
   seq meets p q = record {
-    stands = λ behind at others fine lexed.
-        let second = q.stands behind (at + length a) others fine (moved at a b behind others lexed) in
-        let first = p.stands (b ++ behind) at second.tokens (meets behind fine) second.lexed in
+    stands = λ following at others fine lexed.
+        let second = q.stands following (at + length a) others fine (moved at a b following others lexed) in
+        let first = p.stands (b ++ following) at second.tokens (meets following fine) second.lexed in
         record {
           tokens = first.tokens;
-          lexed = subst (λ (text : List ℕ). LexesAt at text first.tokens) (sym (append_assoc a b behind)) first.lexed;
+          lexed = subst (λ (text : List ℕ). LexesAt at text first.tokens) (sym (append_assoc a b following)) first.lexed;
           reads = λ ending last.
               let x = first.reads ending last in
               let y = second.reads ending x.end in
@@ -71,11 +71,11 @@ module _ {A B : Type 0} {r : Rule A} {s : Rule B} {says : A → Type 0} {tells :
 -- a word, and a text that ends words
 module _ {A B : Type 0} {r : Rule A} {s : Rule B} {says : A → Type 0} {tells : B → Type 0} {a b : List ℕ} where
   pub seq_word : ends_word b ≡ true → Printed r says ends_word a → Printed s tells ends_word b → Printed (r · s) (λ x. says x.0 × tells x.1) ends_word (a ++ b)
-  seq_word ends p q = seq {f = ends_word} (λ behind fine. ends_before b behind ends fine) p q
+  seq_word ends p q = seq {f = ends_word} (λ following fine. ends_before b following ends fine) p q
 
 -- a rule, and another that reads nothing there
 module _ {A B : Type 0} {r : Rule A} {s : Rule B} {says : A → Type 0} {tells : B → Type 0} {f g : Follow} {a : List ℕ} where
-  pub then_nothing : ((behind : List ℕ) → g behind ≡ true → f behind ≡ true) → Printed r says f a → Printed s tells g [] → Printed (r · s) (λ x. says x.0 × tells x.1) g a
+  pub then_nothing : ((following : List ℕ) → g following ≡ true → f following ≡ true) → Printed r says f a → Printed s tells g [] → Printed (r · s) (λ x. says x.0 × tells x.1) g a
   then_nothing meets p q = as_text a (append-nil a) (seq meets p q)
 
 -- ---- pieces
@@ -102,8 +102,8 @@ passed (b ∷ front) at text tokens all l =
 module _ {A : Type 0} {r : Rule A} {says : A → Type 0} {f : Follow} {a : List ℕ} where
   pub mapped : {B : Type 0} (make : A → B) (tells : B → Type 0) → ((x : A) → says x → tells (make x)) → Printed r says f a → Printed (make <$> r) tells f a
   mapped make tells so p = record {
-    stands = λ behind at others fine lexed.
-        let b = p.stands behind at others fine lexed in
+    stands = λ following at others fine lexed.
+        let b = p.stands following at others fine lexed in
         record {
           tokens = b.tokens;
           lexed = b.lexed;
@@ -113,8 +113,8 @@ module _ {A : Type 0} {r : Rule A} {says : A → Type 0} {f : Follow} {a : List 
 
   pub left : (s : Rule A) → Printed r says f a → Printed (r ∣ s) says f a
   left s p = record {
-    stands = λ behind at others fine lexed.
-        let b = p.stands behind at others fine lexed in
+    stands = λ following at others fine lexed.
+        let b = p.stands following at others fine lexed in
         record {
           tokens = b.tokens;
           lexed = b.lexed;
@@ -124,8 +124,8 @@ module _ {A : Type 0} {r : Rule A} {says : A → Type 0} {f : Follow} {a : List 
 
   pub right : (s : Rule A) → Printed r says f a → Printed (s ∣ r) says f a
   right s p = record {
-    stands = λ behind at others fine lexed.
-        let b = p.stands behind at others fine lexed in
+    stands = λ following at others fine lexed.
+        let b = p.stands following at others fine lexed in
         record {
           tokens = b.tokens;
           lexed = b.lexed;
@@ -136,8 +136,8 @@ module _ {A : Type 0} {r : Rule A} {says : A → Type 0} {f : Follow} {a : List 
   -- what is said of the tree, wherever it is
   pub placed : {P : Type 0} (m : Meaning P) → Printed r says f a → Printed (rule.placed m r) (λ x. says x.it) f a
   placed m p = record {
-    stands = λ behind at others fine lexed.
-        let b = p.stands behind at others fine lexed in
+    stands = λ following at others fine lexed.
+        let b = p.stands following at others fine lexed in
         record {
           tokens = b.tokens;
           lexed = b.lexed;
@@ -155,8 +155,8 @@ module _ {A : Type 0} {r : Rule A} {says : A → Type 0} {f : Follow} {a : List 
   -- one that may be left out, and is there
   pub given : Printed r says f a → Printed (optional r) (λ o. (x : A) × (o ≡ Some x) × says x) f a
   given p = record {
-    stands = λ behind at others fine lexed.
-        let b = p.stands behind at others fine lexed in
+    stands = λ following at others fine lexed.
+        let b = p.stands following at others fine lexed in
         record {
           tokens = b.tokens;
           lexed = b.lexed;
@@ -167,11 +167,11 @@ module _ {A : Type 0} {r : Rule A} {says : A → Type 0} {f : Follow} {a : List 
   -- after bytes that are ignored
   pub ignored : (front : List ℕ) → list_all is_ignored_byte front ≡ true → Printed r says f a → Printed r says f (front ++ a)
   ignored front all p = record {
-    stands = λ behind at others fine lexed.
-        let b = p.stands behind (at + length front) others fine (moved at front a behind others lexed) in
+    stands = λ following at others fine lexed.
+        let b = p.stands following (at + length front) others fine (moved at front a following others lexed) in
         record {
           tokens = b.tokens;
-          lexed = subst (λ (text : List ℕ). LexesAt at text b.tokens) (sym (append_assoc front a behind)) (passed front at (a ++ behind) b.tokens all b.lexed);
+          lexed = subst (λ (text : List ℕ). LexesAt at text b.tokens) (sym (append_assoc front a following)) (passed front at (a ++ following) b.tokens all b.lexed);
           reads = b.reads;
         };
   }
@@ -180,25 +180,25 @@ module _ {A : Type 0} (r : Rule A) where
   -- left out
   pub left_out : (f : Follow) → Printed (optional r) (λ o. o ≡ None) f []
   left_out f = record {
-    stands = λ behind at others fine lexed.
-        record { tokens = others; lexed = from_here at behind others lexed; reads = λ ending last. record { tree = None; end = last; read = refl; said = refl } };
+    stands = λ following at others fine lexed.
+        record { tokens = others; lexed = from_here at following others lexed; reads = λ ending last. record { tree = None; end = last; read = refl; said = refl } };
   }
 
   -- no more of them
   pub no_more : (f : Follow) → Printed (many r) (λ xs. xs ≡ []) f []
   no_more f = record {
-    stands = λ behind at others fine lexed.
-        record { tokens = others; lexed = from_here at behind others lexed; reads = λ ending last. record { tree = []; end = last; read = refl; said = refl } };
+    stands = λ following at others fine lexed.
+        record { tokens = others; lexed = from_here at following others lexed; reads = λ ending last. record { tree = []; end = last; read = refl; said = refl } };
   }
 
 module _ {A : Type 0} {r : Rule A} {says : A → Type 0} {tells : List A → Type 0} {f g : Follow} {a b : List ℕ} (told : List A → Type 0)
-    (so : (x : A) (xs : List A) → says x → tells xs → told (x ∷ xs)) (meets : (behind : List ℕ) → g behind ≡ true → f (b ++ behind) ≡ true)
+    (so : (x : A) (xs : List A) → says x → tells xs → told (x ∷ xs)) (meets : (following : List ℕ) → g following ≡ true → f (b ++ following) ≡ true)
     (p : Printed r says f a) (q : Printed (many r) tells g b) where
   -- one, and more
   pub more : Printed (many r) told g (a ++ b)
   more = let both = seq meets p q in record {
-    stands = λ behind at others fine lexed.
-        let z = both.stands behind at others fine lexed in
+    stands = λ following at others fine lexed.
+        let z = both.stands following at others fine lexed in
         record {
           tokens = z.tokens;
           lexed = z.lexed;
@@ -208,8 +208,8 @@ module _ {A : Type 0} {r : Rule A} {says : A → Type 0} {tells : List A → Typ
 
   pub one_or_more : Printed (some r) told g (a ++ b)
   one_or_more = let both = seq meets p q in record {
-    stands = λ behind at others fine lexed.
-        let z = both.stands behind at others fine lexed in
+    stands = λ following at others fine lexed.
+        let z = both.stands following at others fine lexed in
         record {
           tokens = z.tokens;
           lexed = z.lexed;

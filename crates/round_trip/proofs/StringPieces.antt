@@ -32,10 +32,10 @@ description_begins (Some prefix) level text = go (has_byte 10 text && can_be_blo
     go true = block_begins prefix level text
     go false = quoted_begins text
 
-not_ignored : (text behind : List ℕ) → BeginsMarked text → ignored_at (text ++ behind) ≡ None
+not_ignored : (text following : List ℕ) → BeginsMarked text → ignored_at (text ++ following) ≡ None
 unfolding ignored_at
-not_ignored [] behind h = absurd cc
-not_ignored (b ∷ text) behind h =
+not_ignored [] following h = absurd cc
+not_ignored (b ∷ text) following h =
     let is : b ≡ 34 = eqb-true b 34 (and_parts (b == 34) true h).0 in
     rw is refl
 
@@ -43,18 +43,18 @@ abbrev string_piece : TokenKind → List ℕ → Piece
 string_piece kind text = record { kind = Some kind; length = length text }
 
 -- a string that is a token is a piece of the text
-pub piece_is : (kind : TokenKind) (text behind : List ℕ) → BeginsMarked text → IsToken kind text behind → piece_at (text ++ behind) ≡ Some (record { kind = Some kind; length = length text })
+pub piece_is : (kind : TokenKind) (text following : List ℕ) → BeginsMarked text → IsToken kind text following → piece_at (text ++ following) ≡ Some (record { kind = Some kind; length = length text })
 unfolding piece_at
-piece_is kind text behind begins token =
-    ap (λ o. piece_of o (token_at (text ++ behind))) (not_ignored text behind begins)
+piece_is kind text following begins token =
+    ap (λ o. piece_of o (token_at (text ++ following))) (not_ignored text following begins)
     ∙ ap (piece_of None) token
 
 -- and its token is the first of the text, before what follows it
-pub string_lexes : (kind : TokenKind) (text behind : List ℕ) → BeginsMarked text → IsToken kind text behind → LexesFront (text ++ behind) (record { kind = terminal_of kind text; text = text; offset = 0 } ∷ []) behind
-string_lexes kind text behind begins token = record {
+pub string_lexes : (kind : TokenKind) (text following : List ℕ) → BeginsMarked text → IsToken kind text following → LexesFront (text ++ following) (record { kind = terminal_of kind text; text = text; offset = 0 } ∷ []) following
+string_lexes kind text following begins token = record {
   pieces = string_piece kind text ∷ [];
-  are = (piece_is kind text behind begins token, drop_at text behind (length text) refl);
+  are = (piece_is kind text following begins token, drop_at text following (length text) refl);
   found =
-      let same : text ≡ take (length text) (text ++ behind) = sym (take_at text behind (length text) refl) in
+      let same : text ≡ take (length text) (text ++ following) = sym (take_at text following (length text) refl) in
       ap (λ (t : List ℕ). record { kind = terminal_of kind t; text = t; offset = 0 } ∷ []) same;
 }

@@ -54,9 +54,9 @@ six_marks : token_at (quoted_text [] ++ codes "\"\"\"\"") ≡ Some (k.BlockStrin
 unfolding joined token_at string_at block_len run_len block_character_len
 six_marks = refl
 
-mark_behind_another : token_at (quoted_text (codes "x") ++ 34 ∷ []) ≡ Some (k.String, 3)
+mark_after_another : token_at (quoted_text (codes "x") ++ 34 ∷ []) ≡ Some (k.String, 3)
 unfolding joined token_at string_at quoted_len run_len part_len
-mark_behind_another = refl
+mark_after_another = refl
 
 -- ---- block strings: the printed text at level 1 under two spaces, its token before a quotation mark, its value
 

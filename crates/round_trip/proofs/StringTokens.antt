@@ -19,11 +19,11 @@ use Rattle.round_trip.specs.WellFormed.{is_white_prefix}
 use Rattle.round_trip.specs.Literals.{IsStringToken, StringsRead}
 
 -- no quotation mark follows a word
-may_follow : (text behind : List ℕ) → ends_word behind ≡ true → MayFollow text behind
+may_follow : (text following : List ℕ) → ends_word following ≡ true → MayFollow text following
 may_follow text [] h e = refl
-may_follow text (b ∷ behind) h e = go (goes_on b) (b == 34) h
+may_follow text (b ∷ following) h e = go (goes_on b) (b == 34) h
   where
-    go : (x y : Bool) → not (x || y) ≡ true → (y && begins_with [] behind) ≡ false
+    go : (x y : Bool) → not (x || y) ≡ true → (y && begins_with [] following) ≡ false
     go x false h = refl
     go true true h = absurd cc
     go false true h = absurd cc
@@ -35,14 +35,14 @@ white_prefix (Some prefix) h = h
 quoted_stands_for : (text : List ℕ) (token : Token) → token.kind ≡ k.String → token.text ≡ quoted_text text → string_of token ≡ text
 quoted_stands_for text token kind is = ap (λ (l : Terminal). string_by l token.text) kind ∙ ap string_value is ∙ quoted_value text
 
-string_token : (printed text behind : List ℕ) → IsReadAs printed text behind → IsStringToken string_of printed text behind
-string_token printed text behind (inl read) = record {
+string_token : (printed text following : List ℕ) → IsReadAs printed text following → IsStringToken string_of printed text following
+string_token printed text following (inl read) = record {
   kind = t.String;
   is = refl;
   token = read.0;
   stands_for = λ token kind is. ap (λ (l : Terminal). string_by l token.text) kind ∙ ap string_value is ∙ read.1;
 }
-string_token printed text behind (inr read) = record {
+string_token printed text following (inr read) = record {
   kind = t.BlockString;
   is = refl;
   token = read.0;
@@ -51,9 +51,9 @@ string_token printed text behind (inr read) = record {
 
 pub strings_read : StringsRead string_of
 strings_read = record {
-  quoted = λ text behind fine. quoted_is_token text behind (may_follow text behind fine);
+  quoted = λ text following fine. quoted_is_token text following (may_follow text following fine);
   stands_for = quoted_stands_for;
-  described = λ prefix level text behind white fine.
-      string_token (description_string prefix level text) text behind
-      (description_is_read prefix level text behind (white_prefix prefix white) (may_follow text behind fine));
+  described = λ prefix level text following white fine.
+      string_token (description_string prefix level text) text following
+      (description_is_read prefix level text following (white_prefix prefix white) (may_follow text following fine));
 }

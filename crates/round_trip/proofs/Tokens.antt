@@ -28,39 +28,39 @@ use Rattle.round_trip.proofs.Sequences.{mapped}
 abbrev pub token_piece : TokenKind → List ℕ → Piece
 token_piece kind text = record { kind = Some kind; length = length text }
 
-pub take_front : (text behind : List ℕ) → take (length text) (text ++ behind) ≡ text
-take_front [] behind = refl
-take_front (b ∷ text) behind = ap (λ (l : List ℕ). b ∷ l) (take_front text behind)
+pub take_front : (text following : List ℕ) → take (length text) (text ++ following) ≡ text
+take_front [] following = refl
+take_front (b ∷ text) following = ap (λ (l : List ℕ). b ∷ l) (take_front text following)
 
-pub drop_front : (text behind : List ℕ) → drop (length text) (text ++ behind) ≡ behind
-drop_front [] behind = refl
-drop_front (b ∷ text) behind = drop_front text behind
+pub drop_front : (text following : List ℕ) → drop (length text) (text ++ following) ≡ following
+drop_front [] following = refl
+drop_front (b ∷ text) following = drop_front text following
 
 -- what is said of a token
 abbrev pub IsToken : TokenKind → List ℕ → Token → Type 0
 IsToken kind text token = (token.kind ≡ terminal_of kind text) × (token.text ≡ text)
 
 -- a text that is one piece, a token's, before what follows it
-pub token_here : (is : Terminal → Bool) (kind : TokenKind) (text behind : List ℕ) (at : ℕ) (others : List Token) → piece_at (text ++ behind) ≡ Some (token_piece kind text) → is (terminal_of kind text) ≡ true → LexesAt (at + length text) behind others
-    → PrintedBefore (one is) (IsToken kind text) text behind at others
-token_here is kind text behind at others piece passes lexed =
+pub token_here : (is : Terminal → Bool) (kind : TokenKind) (text following : List ℕ) (at : ℕ) (others : List Token) → piece_at (text ++ following) ≡ Some (token_piece kind text) → is (terminal_of kind text) ≡ true → LexesAt (at + length text) following others
+    → PrintedBefore (one is) (IsToken kind text) text following at others
+token_here is kind text following at others piece passes lexed =
     let this : Token = record { kind = terminal_of kind text; text = text; offset = at } in
     record {
       tokens = this ∷ others;
       lexed = record {
         pieces = token_piece kind text ∷ lexed.pieces;
-        are = (piece, subst (λ (l : List ℕ). ArePieces lexed.pieces l []) (sym (drop_front text behind)) lexed.are);
-        found = rw (take_front text behind) (rw (drop_front text behind) (ap (λ (l : List Token). this ∷ l) lexed.found));
+        are = (piece, subst (λ (l : List ℕ). ArePieces lexed.pieces l []) (sym (drop_front text following)) lexed.are);
+        found = rw (take_front text following) (rw (drop_front text following) (ap (λ (l : List Token). this ∷ l) lexed.found));
       };
       reads = λ ending last. record { tree = this; end = at + length text; read = (passes, (others, refl, refl)); said = (refl, refl) };
     }
 
 -- the same before all that follows it
-pub token : (is : Terminal → Bool) (kind : TokenKind) (text : List ℕ) (f : Follow) → ((behind : List ℕ) → f behind ≡ true → piece_at (text ++ behind) ≡ Some (token_piece kind text)) → is (terminal_of kind text) ≡ true → Printed (one is) (IsToken kind text) f text
-token is kind text f pieces passes = record { stands = λ behind at others fine lexed. token_here is kind text behind at others (pieces behind fine) passes lexed }
+pub token : (is : Terminal → Bool) (kind : TokenKind) (text : List ℕ) (f : Follow) → ((following : List ℕ) → f following ≡ true → piece_at (text ++ following) ≡ Some (token_piece kind text)) → is (terminal_of kind text) ≡ true → Printed (one is) (IsToken kind text) f text
+token is kind text f pieces passes = record { stands = λ following at others fine lexed. token_here is kind text following at others (pieces following fine) passes lexed }
 
 -- a token that says nothing more
-pub marked : (is : Terminal → Bool) (kind : TokenKind) (text : List ℕ) (f : Follow) → ((behind : List ℕ) → f behind ≡ true → piece_at (text ++ behind) ≡ Some (token_piece kind text)) → is (terminal_of kind text) ≡ true → Printed (mark is) (λ x. x ≡ tt) f text
+pub marked : (is : Terminal → Bool) (kind : TokenKind) (text : List ℕ) (f : Follow) → ((following : List ℕ) → f following ≡ true → piece_at (text ++ following) ≡ Some (token_piece kind text)) → is (terminal_of kind text) ≡ true → Printed (mark is) (λ x. x ≡ tt) f text
 marked is kind text f pieces passes = mapped (λ _. tt) (λ x. x ≡ tt) (λ x said. refl) (token is kind text f pieces passes)
 
 -- ---- names
@@ -94,38 +94,38 @@ token_not_ignored (c ∷ bytes) x h =
     (rw (apart_from begins c 13 refl yea) (rw (apart_from begins c 35 refl yea) (rw (apart_from begins c 239 refl yea) refl))))))
 
 -- a token is a piece
-pub token_is_piece : (kind : TokenKind) (text behind : List ℕ) → token_at (text ++ behind) ≡ Some (kind, length text) → piece_at (text ++ behind) ≡ Some (token_piece kind text)
+pub token_is_piece : (kind : TokenKind) (text following : List ℕ) → token_at (text ++ following) ≡ Some (kind, length text) → piece_at (text ++ following) ≡ Some (token_piece kind text)
 unfolding piece_at
-token_is_piece kind text behind h = rw (token_not_ignored (text ++ behind) (kind, length text) h) (rw h refl)
+token_is_piece kind text following h = rw (token_not_ignored (text ++ following) (kind, length text) h) (rw h refl)
 
 -- no name character follows a word
-pub word_ends : (behind : List ℕ) → ends_word behind ≡ true → begins_by is_name_continue behind ≡ false
+pub word_ends : (following : List ℕ) → ends_word following ≡ true → begins_by is_name_continue following ≡ false
 word_ends [] h = refl
-word_ends (b ∷ behind) h = (no_or_twice (is_name_continue b) (b == 46) (b == 34) h)
+word_ends (b ∷ following) h = (no_or_twice (is_name_continue b) (b == 46) (b == 34) h)
   where
     no_or_twice : (x y z : Bool) → not ((x || y) || z) ≡ true → x ≡ false
     no_or_twice true y z e = absurd cc
     no_or_twice false y z e = refl
 
 -- all of a text that passes, and nothing of what follows it
-pub whole_run : (p : ℕ → Bool) (text behind : List ℕ) → list_all p text ≡ true → begins_by p behind ≡ false → prefix_len p (text ++ behind) ≡ length text
+pub whole_run : (p : ℕ → Bool) (text following : List ℕ) → list_all p text ≡ true → begins_by p following ≡ false → prefix_len p (text ++ following) ≡ length text
 whole_run p [] [] all none = refl
-whole_run p [] (b ∷ behind) all none = rw none refl
-whole_run p (c ∷ text) behind all none =
+whole_run p [] (b ∷ following) all none = rw none refl
+whole_run p (c ∷ text) following all none =
     let (this, others) = and_parts (p c) (list_all p text) all in
-    let more : prefix_len p (text ++ behind) ≡ length text = whole_run p text behind others none in
+    let more : prefix_len p (text ++ following) ≡ length text = whole_run p text following others none in
     rw this (ap (λ (n : ℕ). 1 + n) more ∙ one-add (length text))
 
 abbrev piece_of_length : ℕ → Piece
 piece_of_length n = record { kind = Some t.Name; length = n }
 
-name_pieces : (text behind : List ℕ) → names.is_name text ≡ true → ends_word behind ≡ true → piece_at (text ++ behind) ≡ Some (token_piece t.Name text)
+name_pieces : (text following : List ℕ) → names.is_name text ≡ true → ends_word following ≡ true → piece_at (text ++ following) ≡ Some (token_piece t.Name text)
 unfolding piece_at token_at
-name_pieces [] behind h fine = absurd cc
-name_pieces (c ∷ text) behind h fine =
+name_pieces [] following h fine = absurd cc
+name_pieces (c ∷ text) following h fine =
     let (start, others) = and_parts (is_name_start c) (list_all is_name_continue text) h in
-    let size : 1 + prefix_len is_name_continue (text ++ behind) ≡ length (c ∷ text) = ap (λ (n : ℕ). 1 + n) (whole_run is_name_continue text behind others (word_ends behind fine)) ∙ one-add (length text) in
-    rw (nothing_ignored c (text ++ behind) start) (rw start (ap (λ (n : ℕ). Some (piece_of_length n)) size))
+    let size : 1 + prefix_len is_name_continue (text ++ following) ≡ length (c ∷ text) = ap (λ (n : ℕ). 1 + n) (whole_run is_name_continue text following others (word_ends following fine)) ∙ one-add (length text) in
+    rw (nothing_ignored c (text ++ following) start) (rw start (ap (λ (n : ℕ). Some (piece_of_length n)) size))
 
 -- ---- which keyword a name is
 
@@ -154,11 +154,11 @@ spelled_name text = spelled_passes is_name words text refl refl
 
 -- a name, of a class that its keyword is in
 pub word : (is : Terminal → Bool) (text : List ℕ) → names.is_name text ≡ true → is (terminal_of t.Name text) ≡ true → Printed (one is) (IsToken t.Name text) ends_word text
-word is text h passes = token is t.Name text ends_word (λ behind fine. name_pieces text behind h fine) passes
+word is text h passes = token is t.Name text ends_word (λ following fine. name_pieces text following h fine) passes
 
 -- a keyword
 pub keyword : (is : Terminal → Bool) (text : List ℕ) → names.is_name text ≡ true → is (terminal_of t.Name text) ≡ true → Printed (mark is) (λ x. x ≡ tt) ends_word text
-keyword is text h passes = marked is t.Name text ends_word (λ behind fine. name_pieces text behind h fine) passes
+keyword is text h passes = marked is t.Name text ends_word (λ following fine. name_pieces text following h fine) passes
 
 -- ---- names in trees
 

@@ -35,7 +35,7 @@ use Rattle.round_trip.proofs.Names.{implements_read, union_members_read, names_t
 -- a word, and a text that ends words, where a last part may be left out
 module _ {A B : Type 0} {r : Rule A} {s : Rule B} {says : A → Type 0} {tells : B → Type 0} {a b : List ℕ} where
   pub before_part : ends_word b ≡ true → Printed r says ends_word a → Printed s tells ends_definition b → Printed (r · s) (λ x. says x.0 × tells x.1) ends_definition (a ++ b)
-  before_part ends p q = seq {f = ends_word} (λ behind fine. ends_before b behind ends (and_parts (ends_word behind) (begins_definition behind) fine).0) p q
+  before_part ends p q = seq {f = ends_word} (λ following fine. ends_before b following ends (and_parts (ends_word following) (begins_definition following) fine).0) p q
 
 -- ---- the same trees
 

@@ -63,8 +63,8 @@ module _ {P Q : Type 0} (m : Meaning P) (lits : LiteralsRead m.string) (prefix :
       (described_read m lits prefix white level f.it.description
       (nothing_more
       (seq_word end2 (any_name m f.it.name.it h1)
-      (seq {f = ends_word} (λ behind fine. refl) (argument_definitions_read m lits prefix white f.it.arguments n level h2 w1 (omega arith))
-      (seq {f = any} (λ behind fine. refl) colon
+      (seq {f = ends_word} (λ following fine. refl) (argument_definitions_read m lits prefix white f.it.arguments n level h2 w1 (omega arith))
+      (seq {f = any} (λ following fine. refl) colon
       (ignored (32 ∷ []) refl
       (seq_word end1 (type_read m f.it.ty n h3 (omega arith))
       (nothing_more (directives_read m lits constant f.it.directives n h4 w2 (omega arith))))))))))
@@ -86,5 +86,5 @@ module _ {P Q : Type 0} (m : Meaning P) where
   unfolding joined root_operation_type_definition
   root_read level r h =
       mapped root_of (λ x. unplaced_root x ≡ unplaced_root r.it) (λ x said. one_root _ _ _ _ said.0 said.1.1)
-      (seq {f = ends_word} (λ behind fine. refl) (operation_type_read r.it.operation_type)
-      (seq {f = any} (λ behind fine. refl) colon (ignored (32 ∷ []) refl (nothing_more (any_name m r.it.name.it h)))))
+      (seq {f = ends_word} (λ following fine. refl) (operation_type_read r.it.operation_type)
+      (seq {f = any} (λ following fine. refl) colon (ignored (32 ∷ []) refl (nothing_more (any_name m r.it.name.it h)))))

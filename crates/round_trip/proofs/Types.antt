@@ -32,13 +32,13 @@ module _ {P : Type 0} (m : Meaning P) where
   nullable : (r : Rule (TypeTree P)) (t : TypeTree (Unit {0})) (f : Follow) (text : List ℕ) → Printed (inner r) (IsType t) f text → Printed (any_type m r) (IsType t) f text
   nullable r t f text p =
       mapped type_of (IsType t) (λ x said. subst (λ (o : Option (Unit {0})). IsType t (type_of (x.0, o))) (sym said.1) said.0)
-      (then_nothing (λ behind fine. fine) p (left_out (mark is_bang) f))
+      (then_nothing (λ following fine. fine) p (left_out (mark is_bang) f))
 
   -- a type and "!"
-  banged : (r : Rule (TypeTree P)) (t : TypeTree (Unit {0})) (f : Follow) (text : List ℕ) → ((behind : List ℕ) → f (33 ∷ behind) ≡ true) → Printed (inner r) (IsType t) f text → Printed (any_type m r) (IsType (non_null t)) any (text ++ 33 ∷ [])
+  banged : (r : Rule (TypeTree P)) (t : TypeTree (Unit {0})) (f : Follow) (text : List ℕ) → ((following : List ℕ) → f (33 ∷ following) ≡ true) → Printed (inner r) (IsType t) f text → Printed (any_type m r) (IsType (non_null t)) any (text ++ 33 ∷ [])
   banged r t f text meets p =
       mapped type_of (IsType (non_null t)) (λ x said. subst (λ (o : Option (Unit {0})). IsType (non_null t) (type_of (x.0, o))) (sym said.1.1) (unplaced_non_null x.0 ∙ ap non_null said.0))
-      (seq {f = f} (λ behind fine. meets behind) p (given bang))
+      (seq {f = f} (λ following fine. meets following) p (given bang))
 
   named : (r : Rule (TypeTree P)) (n : List ℕ) → names.is_name n ≡ true → Printed (inner r) (IsType (NamedTree (record { it = n; place = tt }))) ends_word n
   named r n h =
@@ -48,7 +48,7 @@ module _ {P : Type 0} (m : Meaning P) where
   enclosed : (r : Rule (TypeTree P)) (t : TypeTree (Unit {0})) (text : List ℕ) → Printed r (IsType t) ends_word text → Printed (between is_open_bracket r is_close_bracket) (IsType t) any (91 ∷ (text ++ 93 ∷ []))
   enclosed r t text p =
       mapped (λ x. x.1.0) (IsType t) (λ x said. said.1.0)
-      (seq {f = any} (λ behind fine. refl) open_bracket (seq {f = ends_word} (λ behind fine. refl) p close_bracket))
+      (seq {f = any} (λ following fine. refl) open_bracket (seq {f = ends_word} (λ following fine. refl) p close_bracket))
 
   list : (r : Rule (TypeTree P)) (t : TypeTree (Unit {0})) (text : List ℕ) → Printed r (IsType t) any text → Printed (inner r) (IsType (ListTree t)) any text
   list r t text p = right (NamedTree <$> name m) (mapped ListTree (IsType (ListTree t)) (λ x said. ap ListTree said) p)
@@ -58,12 +58,12 @@ module _ {P : Type 0} (m : Meaning P) where
     unfolding type joined
     type_read (NamedTree x) zero h le = nullable nothing _ ends_word _ (named nothing x.it h)
     type_read (NamedTree x) (suc n) h le = nullable _ _ ends_word _ (named _ x.it h)
-    type_read (NonNullNamedTree x) zero h le = before_any (banged nothing _ ends_word _ (λ behind. refl) (named nothing x.it h))
-    type_read (NonNullNamedTree x) (suc n) h le = before_any (banged _ _ ends_word _ (λ behind. refl) (named _ x.it h))
+    type_read (NonNullNamedTree x) zero h le = before_any (banged nothing _ ends_word _ (λ following. refl) (named nothing x.it h))
+    type_read (NonNullNamedTree x) (suc n) h le = before_any (banged _ _ ends_word _ (λ following. refl) (named _ x.it h))
     type_read (ListTree t) zero h le = absurd (omega arith)
     type_read (ListTree t) (suc n) h le = before_any (nullable _ _ any _ (list _ _ _ (enclosed (type m n) (unplaced_type t) (type_text t) (type_read t n h (omega arith)))))
     type_read (NonNullListTree t) zero h le = absurd (omega arith)
     type_read (NonNullListTree t) (suc n) h le =
         before_any
         (as_text (91 ∷ (type_text t ++ 93 ∷ 33 ∷ [])) (ap (λ (l : List ℕ). 91 ∷ l) (append_assoc (type_text t) (93 ∷ []) (33 ∷ [])))
-        (banged _ _ any _ (λ behind. refl) (list _ _ _ (enclosed (type m n) (unplaced_type t) (type_text t) (type_read t n h (omega arith))))))
+        (banged _ _ any _ (λ following. refl) (list _ _ _ (enclosed (type m n) (unplaced_type t) (type_text t) (type_read t n h (omega arith))))))

@@ -6,7 +6,7 @@ use Rattle.round_trip.specs.in_literals.LineLayout.{Prefix, start_text, break_te
 use Rattle.round_trip.specs.in_literals.StringLayout.{description_text}
 use Rattle.read_operations.specs.in_literals.ValueLayout.{type_text, list_text, object_text, named_value_text, value_text, item_texts, entry_texts, default_text}
 use Rattle.read_operations.specs.in_directives.DirectiveLayout.{argument_text, arguments_text, directive_text, directives_text, directive_list_text}
-use Rattle.read_operations.specs.in_directives.InputLayout.{input_value_text, stand_on_lines, argument_definitions_text, repeatable_text, locations_text, directive_definition_text}
+use Rattle.read_operations.specs.in_directives.InputLayout.{input_value_text, are_on_lines, argument_definitions_text, repeatable_text, locations_text, directive_definition_text}
 use Rattle.read_operations.specs.in_operations.OperationQueries.{operation_keyword}
 use Rattle.read_operations.specs.in_operations.OperationLayout.{alias_text, condition_text, selection_text, selection_texts, is_query, variable_text, variables_text, is_none, is_empty, is_bare_query, operation_name_text, full_operation_text, operation_text, begins_output, fragment_text}
 use Rattle.read_operations.specs.in_type_members.TypeSystemLayout.{name_text, names_text, head_text, field_definition_text, enum_value_text, root_text, extend, schema_text, scalar_text, fields_text, union_text, enum_text, input_object_text}
@@ -149,7 +149,7 @@ module _ {P : Type 0} where
   described_same None = refl
   described_same (Some d) = refl
 
-  lines_same : (vs : InputValues P) → stand_on_lines vs ≡ stand_on_lines (map (unplaced_node unplaced_input_value) vs)
+  lines_same : (vs : InputValues P) → are_on_lines vs ≡ are_on_lines (map (unplaced_node unplaced_input_value) vs)
   lines_same [] = refl
   lines_same (v ∷ vs) = λ i. described_same v.it.description i || lines_same vs i
 

@@ -50,7 +50,7 @@ module _ {P : Type 0} (m : Meaning P) (lits : LiteralsRead m.string) where
       as_list m const (list_value m (value m const n)) (object_value m (value m const n))
       (mapped (λ xs. ListTree (items_of xs)) (IsValue (ListTree ts)) (λ xs said. ap ListTree said)
       (mapped (λ x. x.1.0) (AreItems ts) (λ x said. said.1.0)
-      (seq {f = any} (λ behind fine. refl) open_bracket (seq {f = ends_word} (λ behind fine. refl) p close_bracket))))
+      (seq {f = any} (λ following fine. refl) open_bracket (seq {f = ends_word} (λ following fine. refl) p close_bracket))))
 
   braced : (const : Const) (n : ℕ) (ts : EntryTrees (Unit {0})) (text : List ℕ) → Printed (many (object_field m (value m const n))) (AreEntries ts) ends_word text → Printed (value m const (suc n)) (IsValue (ObjectTree ts)) any (123 ∷ (text ++ 125 ∷ []))
   unfolding value
@@ -58,27 +58,27 @@ module _ {P : Type 0} (m : Meaning P) (lits : LiteralsRead m.string) where
       as_object m const (list_value m (value m const n)) (object_value m (value m const n))
       (mapped (λ xs. ObjectTree (entries_of xs)) (IsValue (ObjectTree ts)) (λ xs said. ap ObjectTree said)
       (mapped (λ x. x.1.0) (AreEntries ts) (λ x said. said.1.0)
-      (seq {f = any} (λ behind fine. refl) open_brace (seq {f = ends_word} (λ behind fine. refl) p close_brace))))
+      (seq {f = any} (λ following fine. refl) open_brace (seq {f = ends_word} (λ following fine. refl) p close_brace))))
 
   -- one more, and what follows it
   item_more : (r : Rule (ValueTree P)) (t : ValueTree (Unit {0})) (ts : ItemTrees (Unit {0})) (text : List ℕ) (texts : List (List ℕ)) → Printed r (IsValue t) ends_word text
       → Printed (many (rule.placed m r)) (AreItems ts) ends_word (further_text (codes ", ") texts) → Printed (many (rule.placed m r)) (AreItems (item_then tt t ts)) ends_word (text ++ further_text (codes ", ") texts)
   item_more r t ts text texts p q =
       more {f = ends_word} (AreItems (item_then tt t ts)) (λ x xs this others. one_item (unplaced_value x.it) t (unplaced_items (items_of xs)) ts this others)
-      (λ behind fine. further_ends 44 (32 ∷ []) texts behind refl fine) (placed m p) q
+      (λ following fine. further_ends 44 (32 ∷ []) texts following refl fine) (placed m p) q
 
   -- name: value
   pub field_read : (r : Rule (ValueTree P)) (n : List ℕ) (t : ValueTree (Unit {0})) (text : List ℕ) → names.is_name n ≡ true → Printed r (IsValue t) ends_word text
       → Printed (object_field m r) (λ x. (x.0.it ≡ n) × ((x.1.0 ≡ tt) × IsValue t x.1.1.it)) ends_word (named_value_text n text)
   unfolding joined
   field_read r n t text h p =
-      seq {f = ends_word} (λ behind fine. refl) (any_name m n h) (seq {f = any} (λ behind fine. refl) colon (ignored (32 ∷ []) refl (nothing_more (placed m p))))
+      seq {f = ends_word} (λ following fine. refl) (any_name m n h) (seq {f = any} (λ following fine. refl) colon (ignored (32 ∷ []) refl (nothing_more (placed m p))))
 
   entry_more : (r : Rule (ValueTree P)) (n : List ℕ) (t : ValueTree (Unit {0})) (ts : EntryTrees (Unit {0})) (text : List ℕ) (texts : List (List ℕ)) → names.is_name n ≡ true → Printed r (IsValue t) ends_word text
       → Printed (many (object_field m r)) (AreEntries ts) ends_word (further_text (codes ", ") texts) → Printed (many (object_field m r)) (AreEntries (entry_named n t ts)) ends_word (named_value_text n text ++ further_text (codes ", ") texts)
   entry_more r n t ts text texts h p q =
       more {f = ends_word} (AreEntries (entry_named n t ts)) (λ x xs this others. one_entry x.0.it n (unplaced_value x.1.1.it) t (unplaced_entries (entries_of xs)) ts this.0 this.1.1 others)
-      (λ behind fine. further_ends 44 (32 ∷ []) texts behind refl fine) (field_read r n t text h p) q
+      (λ following fine. further_ends 44 (32 ∷ []) texts following refl fine) (field_read r n t text h p) q
 
   module _ {Q : Type 0} where
     abbrev AreRead : Const → ℕ → ItemTrees Q → List ℕ → Type 0

@@ -21,12 +21,12 @@ abbrev pub Follow : Type 0
 Follow = List ℕ → Bool
 
 abbrev pub any : Follow
-any behind = true
+any following = true
 
 -- the end, or a byte that is not a name character, a digit, a dot or a quotation mark
 abbrev pub ends_word : Follow
 ends_word [] = true
-ends_word (b ∷ behind) = not (goes_on b || b == 34)
+ends_word (b ∷ following) = not (goes_on b || b == 34)
 
 -- the tokens of a whole text whose first byte is at offset `at`
 pub record LexesAt (at : ℕ) (text : List ℕ) (tokens : List Token) : Type 0 where
@@ -45,22 +45,22 @@ pub record ReadsUpTo {A : Type 0} (r : Rule A) (says : A → Type 0) (ending : E
   pub read : r (before ending last tokens) tree (before ending end others)
   pub said : says tree
 
--- the tokens of `text` followed by `behind`; the rule reads them up to `others`
-pub record PrintedBefore {A : Type 0} (r : Rule A) (says : A → Type 0) (text behind : List ℕ) (at : ℕ) (others : List Token) : Type 0 where
+-- the tokens of `text` followed by `following`; the rule reads them up to `others`
+pub record PrintedBefore {A : Type 0} (r : Rule A) (says : A → Type 0) (text following : List ℕ) (at : ℕ) (others : List Token) : Type 0 where
   pub tokens : List Token
-  pub lexed : LexesAt at (text ++ behind) tokens
+  pub lexed : LexesAt at (text ++ following) tokens
   pub reads : (ending : Ending) (last : ℕ) → ReadsUpTo r says ending last tokens others
 
 -- before any text that passes `follow`, the rule reads exactly the tokens of this text, to a tree that satisfies `says`
 pub record Printed {A : Type 0} (r : Rule A) (says : A → Type 0) (follow : Follow) (text : List ℕ) : Type 0 where
-  pub stands : (behind : List ℕ) (at : ℕ) (others : List Token) → follow behind ≡ true → LexesAt (at + length text) behind others
-      → PrintedBefore r says text behind at others
+  pub stands : (following : List ℕ) (at : ℕ) (others : List Token) → follow following ≡ true → LexesAt (at + length text) following others
+      → PrintedBefore r says text following at others
 
 -- ignored bytes, and then the end, or the first byte of a name or a string: a keyword or a description of another definition
 abbrev pub begins_definition : Follow
 begins_definition [] = true
-begins_definition (b ∷ behind) = if is_ignored_byte b then begins_definition behind else (is_name_start b || b == 34)
+begins_definition (b ∷ following) = if is_ignored_byte b then begins_definition following else (is_name_start b || b == 34)
 
 -- what may follow a definition whose last part is left out: no `{` comes after it
 abbrev pub ends_definition : Follow
-ends_definition behind = ends_word behind && begins_definition behind
+ends_definition following = ends_word following && begins_definition following

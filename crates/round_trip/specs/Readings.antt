@@ -9,20 +9,20 @@ use Rattle.read_tokens.specs.Tokens.{token_at}
 use Rattle.read_tokens.specs.declared.token.TokenKind.{TokenKind}
 use Rattle.read_tokens.specs.declared.token.TokenKind.TheVariants as k
 
--- followed by `behind`, the text is one token of this kind
+-- followed by `following`, the text is one token of this kind
 abbrev pub IsToken : TokenKind → List ℕ → List ℕ → Type 0
-IsToken kind text behind = token_at (text ++ behind) ≡ Some (kind, length text)
+IsToken kind text following = token_at (text ++ following) ≡ Some (kind, length text)
 
--- followed by `behind`, the printed text is one String or BlockString token, and stands for the text
+-- followed by `following`, the printed text is one String or BlockString token, and stands for the text
 abbrev pub IsReadAs : List ℕ → List ℕ → List ℕ → Type 0
-IsReadAs printed text behind =
-    (IsToken k.String printed behind × (string_value printed ≡ text))
-    ⊎ (IsToken k.BlockString printed behind × (block_value printed ≡ text))
+IsReadAs printed text following =
+    (IsToken k.String printed following × (string_value printed ≡ text))
+    ⊎ (IsToken k.BlockString printed following × (block_value printed ≡ text))
 
 -- what may follow a text within quotation marks: after `""` no third quotation mark, which would begin a block
 -- string
 abbrev pub MayFollow : List ℕ → List ℕ → Type 0
-MayFollow text behind = text ≡ [] → begins_with (34 ∷ []) behind ≡ false
+MayFollow text following = text ≡ [] → begins_with (34 ∷ []) following ≡ false
 
 -- the text is only white space
 abbrev pub IsWhite : List ℕ → Type 0

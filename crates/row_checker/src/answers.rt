@@ -32,7 +32,7 @@ pub(crate) fn schema_of(
 pub(crate) fn push_around(schema: &CheckedSchema, texts: Texts<'_>, told: &mut Told) {
     match schema.check(texts.document) {
         Ok(checked) => {
-            for document in texts.behind {
+            for document in texts.following {
                 push_check(schema, document, told);
             }
             push_accepted(&checked, told);

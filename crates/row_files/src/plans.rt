@@ -16,7 +16,7 @@ pub(crate) fn push_plans(
     out: usize,
     list: &mut Vec<Plan>,
 ) -> Result<(), Problem> {
-    let text = number(row, "behind", "most")?;
+    let text = number(row, "following", "most")?;
     let is_each = says(row, "write", "each")?;
     let least = if is_each { 0 } else { out };
     for step in steps {

@@ -70,10 +70,8 @@ fn judge_text<C: Calls>(
     text: &str,
     tally: &mut Tally,
 ) -> Result<(), Problem> {
-    match fields_of(alloc, text) {
-        Ok(fields) => judge_fields(alloc, calls, file, &fields, tally),
-        Err(problem) => Err(problem),
-    }
+    let fields = fields_of(alloc, text)?;
+    judge_fields(alloc, calls, file, &fields, tally)
 }
 
 /// Judges the rows that the fields make, which begin with a head.

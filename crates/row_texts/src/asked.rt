@@ -17,7 +17,14 @@ pub(crate) fn names_of(call: &str) -> Option<&'static [&'static str]> {
         ]),
         "all" => Some(&["nesting", "indent", "schema", "document", "step"]),
         "run" => Some(&[
-            "nesting", "indent", "schema", "document", "step", "read", "write", "behind",
+            "nesting",
+            "indent",
+            "schema",
+            "document",
+            "step",
+            "read",
+            "write",
+            "following",
         ]),
         _ => None,
     }

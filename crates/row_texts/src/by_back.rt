@@ -37,7 +37,7 @@ fn from_each<C: Checks>(
         let texts = Texts {
             schemas: schemas.as_slice(),
             document: from.document.as_str(),
-            behind: &[],
+            following: &[],
             asked,
         };
         let way = Way {

@@ -15,7 +15,7 @@ pub struct Texts<'a> {
     pub schemas: &'a [&'a str],
     pub document: &'a str,
     /// Further documents over the same schema.
-    pub behind: &'a [&'a str],
+    pub following: &'a [&'a str],
     pub asked: Asked,
 }
 

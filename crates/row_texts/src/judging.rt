@@ -71,7 +71,7 @@ fn by_listed<C: Checks>(
     let texts = Texts {
         schemas,
         document,
-        behind: documents,
+        following: documents,
         asked: asked_of(judged.case, way)?,
     };
     by_judge(judged, way, texts, tally)
@@ -134,7 +134,7 @@ fn judge_call<C: Checks>(
     let texts = Texts {
         schemas: schemas.as_slice(),
         document,
-        behind: &[],
+        following: &[],
         asked,
     };
     by_whole(judged, way, texts, tally)

@@ -52,21 +52,21 @@ carries_itself = record {
 }
 
 -- the number of the i-th place after k others
-abbrev behind : ℕ → ℕ → ℕ
-behind zero k = k
-behind (suc i) k = behind i (suc k)
+abbrev following : ℕ → ℕ → ℕ
+following zero k = k
+following (suc i) k = following i (suc k)
 
-behind_is : (i k : ℕ) → behind i k ≡ i + k
-behind_is zero k = omega arith
-behind_is (suc i) k = let e : i + suc k ≡ suc i + k = omega arith in behind_is i (suc k) ∙ e
+after_is : (i k : ℕ) → following i k ≡ i + k
+after_is zero k = omega arith
+after_is (suc i) k = let e : i + suc k ≡ suc i + k = omega arith in after_is i (suc k) ∙ e
 
 add_zero : (i : ℕ) → i + 0 ≡ i
 add_zero i = omega arith
 
-behind_nothing : (i : ℕ) → behind i 0 ≡ i
-behind_nothing i = behind_is i 0 ∙ add_zero i
+after_nothing : (i : ℕ) → following i 0 ≡ i
+after_nothing i = after_is i 0 ∙ add_zero i
 
-each_agrees : {W X Y Z : Type 0} (f : ℕ → X → Y) (u : W → X) (g : Y → Z) (h : W → Z) (k : ℕ) (ws : List W) → ((i : ℕ) (w : W) → slice_get ws i ≡ Some w → g (f (behind i k) (u w)) ≡ h w) → map g (each_from f k (map u ws)) ≡ map h ws
+each_agrees : {W X Y Z : Type 0} (f : ℕ → X → Y) (u : W → X) (g : Y → Z) (h : W → Z) (k : ℕ) (ws : List W) → ((i : ℕ) (w : W) → slice_get ws i ≡ Some w → g (f (following i k) (u w)) ≡ h w) → map g (each_from f k (map u ws)) ≡ map h ws
 each_agrees f u g h k [] each = refl
 each_agrees f u g h k (w ∷ ws) each = λ i. each zero w refl i ∷ each_agrees f u g h (suc k) ws (λ j x e. each (suc j) x e) i
 
@@ -141,18 +141,18 @@ module _ (s : SchemaTree Place) where
     placed_value at (IntTree x) p e = refl
     placed_value at (BooleanTree b) p e = refl
     placed_value at (ListTree ts) p e =
-        ap ListTree (placed_items at 0 ts (λ j. ap (λ (o : Option (Placed Place (ValueTree Place))). option_and_then (λ (v : Placed Place (ValueTree Place)). option_and_then (λ (xs : ItemTrees Place). item_of xs (behind j 0)) (list_items v.it)) o) e ∙ ap (item_of ts) (behind_nothing j)))
+        ap ListTree (placed_items at 0 ts (λ j. ap (λ (o : Option (Placed Place (ValueTree Place))). option_and_then (λ (v : Placed Place (ValueTree Place)). option_and_then (λ (xs : ItemTrees Place). item_of xs (following j 0)) (list_items v.it)) o) e ∙ ap (item_of ts) (after_nothing j)))
     placed_value at (ObjectTree es) p e =
-        ap ObjectTree (placed_entries at 0 es (λ j. ap (λ (o : Option (Placed Place (ValueTree Place))). option_and_then (λ (v : Placed Place (ValueTree Place)). option_and_then (λ (xs : EntryTrees Place). slice_get (entry_list xs) (behind j 0)) (object_entries v.it)) o) e ∙ ap (slice_get (entry_list es)) (behind_nothing j)))
+        ap ObjectTree (placed_entries at 0 es (λ j. ap (λ (o : Option (Placed Place (ValueTree Place))). option_and_then (λ (v : Placed Place (ValueTree Place)). option_and_then (λ (xs : EntryTrees Place). slice_get (entry_list xs) (following j 0)) (object_entries v.it)) o) e ∙ ap (slice_get (entry_list es)) (after_nothing j)))
 
-    placed_items : (at : Spot) (i : ℕ) (ts : ItemTrees Place) → ((j : ℕ) → written_at s (ItemAt at (behind j i)) ≡ item_of ts j) → moved_items spot None (spotted_items at i (unplaced_items ts)) ≡ moved_items itself None ts
+    placed_items : (at : Spot) (i : ℕ) (ts : ItemTrees Place) → ((j : ℕ) → written_at s (ItemAt at (following j i)) ≡ item_of ts j) → moved_items spot None (spotted_items at i (unplaced_items ts)) ≡ moved_items itself None ts
     placed_items at i no_items there = refl
     placed_items at i (item_then p v ts) there = λ k. item_then
         (ap (λ (o : Option (Placed Place (ValueTree Place))). option_and_then (λ (x : Placed Place (ValueTree Place)). x.place) o) (there zero) k)
         (placed_value (ItemAt at i) v p (there zero) k)
         (placed_items at (suc i) ts (λ j. there (suc j)) k)
 
-    placed_entries : (at : Spot) (i : ℕ) (es : EntryTrees Place) → ((j : ℕ) → option_and_then (λ v. option_and_then (λ xs. slice_get (entry_list xs) (behind j i)) (object_entries v.it)) (written_at s at) ≡ slice_get (entry_list es) j) → moved_entries spot None (spotted_entries at i (unplaced_entries es)) ≡ moved_entries itself None es
+    placed_entries : (at : Spot) (i : ℕ) (es : EntryTrees Place) → ((j : ℕ) → option_and_then (λ v. option_and_then (λ xs. slice_get (entry_list xs) (following j i)) (object_entries v.it)) (written_at s at) ≡ slice_get (entry_list es) j) → moved_entries spot None (spotted_entries at i (unplaced_entries es)) ≡ moved_entries itself None es
     placed_entries at i no_entries there = refl
     placed_entries at i (entry_then n p v es) there = λ k. entry_then
         (record { it = n.it; place = ap (λ (o : Option (Text Place × Placed Place (ValueTree Place))). option_and_then (λ (e : Text Place × Placed Place (ValueTree Place)). e.0.place) o) (there zero) k })
@@ -184,8 +184,8 @@ module _ (s : SchemaTree Place) where
       arguments =
           each_agrees (λ i a. spotted_argument (GivenAt (DirectiveAt holder j) i) a) (unplaced_node unplaced_argument) (moved_argument spot None) (moved_argument itself None) 0 d.it.arguments
           (λ i a e.
-          let found : given_at s (GivenAt (DirectiveAt holder j) (behind i 0)) ≡ Some a = given_found holder j (behind i 0) d a there (ap (slice_get d.it.arguments) (behind_nothing i) ∙ e) in
-          placed_argument (GivenAt (DirectiveAt holder j) (behind i 0)) a found (ap (λ (o : Option (Placed Place (ArgumentTree Place))). or_nothing (option_map (λ (x : Placed Place (ArgumentTree Place)). x.place) o)) found))
+          let found : given_at s (GivenAt (DirectiveAt holder j) (following i 0)) ≡ Some a = given_found holder j (following i 0) d a there (ap (slice_get d.it.arguments) (after_nothing i) ∙ e) in
+          placed_argument (GivenAt (DirectiveAt holder j) (following i 0)) a found (ap (λ (o : Option (Placed Place (ArgumentTree Place))). or_nothing (option_map (λ (x : Placed Place (ArgumentTree Place)). x.place) o)) found))
           k;
     };
     place = ap (λ (o : Option (Placed Place (DirectiveTree Place))). or_nothing (option_map (λ (x : Placed Place (DirectiveTree Place)). x.place) o)) there k;
@@ -194,7 +194,7 @@ module _ (s : SchemaTree Place) where
   placed_directives : (holder : Address) (ds : Directives Place) → directives_at s holder ≡ ds → map (moved_directive spot None) (spotted_directives holder (map (λ d. unplaced_directive d.it) ds)) ≡ map (moved_directive itself None) ds
   placed_directives holder ds same =
       each_agrees (λ i d. spotted_directive (DirectiveAt holder i) d) (λ d. unplaced_directive d.it) (moved_directive spot None) (moved_directive itself None) 0 ds
-      (λ i d e. placed_directive holder (behind i 0) d (ap (λ l. slice_get l (behind i 0)) same ∙ ap (slice_get ds) (behind_nothing i) ∙ e))
+      (λ i d e. placed_directive holder (following i 0) d (ap (λ l. slice_get l (following i 0)) same ∙ ap (slice_get ds) (after_nothing i) ∙ e))
 
   -- a spot that is no head is where it is found
   stands_settled : (at : Spot) (place : Place) → SpotIsAt s (settled at) place ↔ (place ≡ spot_place s (settled at))

@@ -172,8 +172,8 @@ module _ (at : Address → Place) (s : SchemaTree Place) (variables : Variables 
       joined (inr (j, (a, (there, (first, (i, (v, (here, (name, (first', t)))))))))) = (j, (a, (there, (first, (i, (v, (here, (name, (first', inr t)))))))))
 
 -- the places of a schema are those of the definitions that are in it
-pub stands_in : (s : SchemaTree Place) (t : Rust) → arguments_at s (holder_of t.name) ≡ input_value_trees t.definitions.now → TellsPlaces (place_at s) s t
-stands_in s t stands = record {
+pub lies_in : (s : SchemaTree Place) (t : Rust) → arguments_at s (holder_of t.name) ≡ input_value_trees t.definitions.now → TellsPlaces (place_at s) s t
+lies_in s t stands = record {
   schema = record { types = λ n. refl; inputs = λ n m. refl; references = λ n m. refl };
   arguments = λ i v e. let there = ap (λ l. slice_get l i) stands ∙ e in (
     ap (λ o. or_nothing (option_map (λ x. x.place) o)) there,

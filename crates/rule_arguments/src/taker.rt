@@ -1,13 +1,13 @@
 //! What takes arguments.
 ghost use Rattle.std.specs.Prelude.{◌≡◌, IfOk};
-ghost use Rattle.schema_coordinates.specs.Coordinate.{OfAttribute, OfArgument, OfDirectiveArgument};
 ghost use Rattle.schema_coordinates.specs.CoordinateView.{schema_coordinate};
 ghost use Rattle.rule_arguments.specs.Trees.{coordinate_of, argument_coordinate_of};
 
 use graphql_names::{Name, Node, SourceSpan};
-use rule_values::{
-    DefinedArguments, DirectiveArgumentCoordinate, DirectiveCoordinate, FieldArgumentCoordinate,
-    SchemaCoordinate, TypeAttributeCoordinate,
+use rule_values::DefinedArguments;
+use schema_coordinates::{
+    DirectiveCoordinate, SchemaCoordinate, coordinate_of_argument, coordinate_of_attribute,
+    coordinate_of_directive_argument,
 };
 use std::alloc::AllocError;
 use tree_directives::Argument;
@@ -41,7 +41,7 @@ impl TakerName<'_> {
                     directive: directive.clone()?,
                 }))
             }
-            TakerName::OfField(ty, field) => attribute_coordinate(ty, field),
+            TakerName::OfField(ty, field) => coordinate_of_attribute(ty, field),
         }
     }
 
@@ -50,43 +50,10 @@ impl TakerName<'_> {
         ensures { IfOk result (λ c. schema_coordinate c ≡ argument_coordinate_of self.entry argument.now.text) }
     {
         match self {
-            TakerName::OfDirective(directive) => directive_argument(directive, argument),
-            TakerName::OfField(ty, field) => field_argument(ty, field, argument),
+            TakerName::OfDirective(directive) => {
+                coordinate_of_directive_argument(directive, argument)
+            }
+            TakerName::OfField(ty, field) => coordinate_of_argument(ty, field, argument),
         }
     }
-}
-
-/// `T.f`
-fn attribute_coordinate(ty: &Name, attribute: &Name) -> Result<SchemaCoordinate, AllocError>
-    ensures { IfOk result (λ c. schema_coordinate c ≡ OfAttribute ty.now.text attribute.now.text) }
-{
-    let ty = ty.clone()?;
-    Ok(SchemaCoordinate::TypeAttribute(TypeAttributeCoordinate {
-        ty,
-        attribute: attribute.clone()?,
-    }))
-}
-
-/// `@d(a:)`
-fn directive_argument(directive: &Name, argument: &Name) -> Result<SchemaCoordinate, AllocError>
-    ensures { IfOk result (λ c. schema_coordinate c ≡ OfDirectiveArgument directive.now.text argument.now.text) }
-{
-    let directive = directive.clone()?;
-    Ok(SchemaCoordinate::DirectiveArgument(DirectiveArgumentCoordinate {
-        directive,
-        argument: argument.clone()?,
-    }))
-}
-
-/// `T.f(a:)`
-fn field_argument(ty: &Name, field: &Name, argument: &Name) -> Result<SchemaCoordinate, AllocError>
-    ensures { IfOk result (λ c. schema_coordinate c ≡ OfArgument ty.now.text field.now.text argument.now.text) }
-{
-    let ty = ty.clone()?;
-    let field = field.clone()?;
-    Ok(SchemaCoordinate::FieldArgument(FieldArgumentCoordinate {
-        ty,
-        field,
-        argument: argument.clone()?,
-    }))
 }

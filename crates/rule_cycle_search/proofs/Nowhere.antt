@@ -6,7 +6,7 @@ use Rattle.std.proofs.lemmas.Option.{same_Some}
 use Rattle.rule_cycle_search.specs.declared.graph.Graph.{Graph}
 use Rattle.rule_cycle_search.specs.declared.found.Found.{Found}
 use Rattle.rule_cycle_search.specs.declared.found.Found.TheVariants.{Nothing}
-use Rattle.rule_cycle_search.specs.Graph.{references, IsWayBack}
+use Rattle.rule_cycle_search.specs.Graph.{references, IsCycleThrough}
 use Rattle.rule_cycle_search.specs.Found.{Finds, AreFound}
 use Rattle.rule_cycle_search.proofs.Lists.{not_in_nil}
 

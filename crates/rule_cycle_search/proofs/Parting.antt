@@ -10,7 +10,7 @@ use Rattle.rule_cycle_search.specs.Paths.{Leads}
 use Rattle.rule_cycle_search.proofs.Lists.{not_in_nil}
 use Rattle.rule_cycle_search.specs.declared.graph.Graph.{Graph}
 use Rattle.rule_cycle_search.specs.declared.steps.Step.{Step}
-use Rattle.rule_cycle_search.specs.Graph.{listed, references, RefersTo, LeadsTo, IsWayBack}
+use Rattle.rule_cycle_search.specs.Graph.{listed, references, RefersTo, LeadsTo, IsCycleThrough}
 use Rattle.rule_cycle_search.specs.NodeSteps.{is_in, IsIn, via_at}
 use Rattle.rule_cycle_search.specs.Spread.{IsTree, Spreads}
 use Rattle.rule_cycle_search.specs.Referrers.{AreReferrers}
@@ -269,12 +269,12 @@ module _ (g : Graph) where
 
   -- no node of its part refers to it: none leads it back
   pub none_back : (r : List (Vec ℕ Global)) → AreReferrers g.references.items r → (toward from : List Step) (c n : ℕ) → IsWhole g toward from → IsIn from c n
-      → ((z : ℕ) → Contains (listed r n) z → is_in from c z ≡ false) → (path : List ℕ) → IsWayBack g n path → ⊥
+      → ((z : ℕ) → Contains (listed r n) z → is_in from c z ≡ false) → (path : List ℕ) → IsCycleThrough g n path → ⊥
   none_back r are toward from c n whole h none path way =
       let last : (z : ℕ) × ((p : List ℕ) × (LeadsTo g n p z × Contains (references g z) n)) = Leads-last n way.0 way.1.0 n way.1.1.1 in
       let inside : IsIn from c last.0 = (part_of toward from c n whole h).whole n last.0 last.1.0 (n ∷ []) h last.1.1.0 (n, ((last.1.1.1, refl), refl)) in
       let far : n < nowhere g = omega (arith, in_within from c n h, whole.parted.from_long) in
       true≢false (sym inside ∙ none last.0 (are.full n last.0 far last.1.1.1))
 
-  pub no_node_back : (n : ℕ) → nowhere g ≤ n → (path : List ℕ) → IsWayBack g n path → ⊥
+  pub no_node_back : (n : ℕ) → nowhere g ≤ n → (path : List ℕ) → IsCycleThrough g n path → ⊥
   no_node_back n far path way = let near : n < nowhere g = refers_within g n way.0 way.1.1.1.1.0.0 in omega arith

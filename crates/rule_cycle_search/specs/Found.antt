@@ -2,14 +2,14 @@
 use Rattle.std.specs.Prelude.{◌≡◌, ℕ, List, length, slice_get, Some}
 use Rattle.rule_cycle_search.specs.declared.graph.Graph.{Graph}
 use Rattle.rule_cycle_search.specs.declared.found.Found.{Found}
-use Rattle.rule_cycle_search.specs.declared.found.Found.TheVariants.{Nothing, WayBack, Deep}
-use Rattle.rule_cycle_search.specs.Graph.{IsWayBack, IsDeep}
+use Rattle.rule_cycle_search.specs.declared.found.Found.TheVariants.{Nothing, Cycle, Deep}
+use Rattle.rule_cycle_search.specs.Graph.{IsCycleThrough, IsDeep}
 
 module _ (g : Graph) where
   -- what is found of the root is true
   abbrev pub Finds : ℕ → Found → Type 0
-  Finds root Nothing = (path : List ℕ) → IsWayBack g root path → ⊥
-  Finds root (WayBack path) = IsWayBack g root path.items
+  Finds root Nothing = (path : List ℕ) → IsCycleThrough g root path → ⊥
+  Finds root (Cycle path) = IsCycleThrough g root path.items
   Finds root Deep = IsDeep g root
 
   -- what is found of each root, in order, is true

@@ -30,8 +30,8 @@ is_of g true n = is_first g n
 is_of g false n = is_other g n
 
 -- these references, at least one, lead from the root back to it
-abbrev pub IsWayBack : Graph → ℕ → List ℕ → Type 0
-IsWayBack g root path = (by : ℕ) × ((rest : List ℕ) × ((path ≡ by ∷ rest) × LeadsTo g root (by ∷ rest) root))
+abbrev pub IsCycleThrough : Graph → ℕ → List ℕ → Type 0
+IsCycleThrough g root path = (by : ℕ) × ((rest : List ℕ) × ((path ≡ by ∷ rest) × LeadsTo g root (by ∷ rest) root))
 
 -- the path has more nodes of one kind than the bound
 abbrev pub AreTooMany : Graph → List ℕ → Type 0

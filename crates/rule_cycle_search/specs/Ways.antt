@@ -17,4 +17,4 @@ module _ (steps : List Step) (stops : List ℕ) where
 
 -- the first path up to a node m of the second, then the second in reverse
 abbrev pub Joins : List ℕ → List ℕ → List ℕ → Type 0
-Joins ahead behind way = (front : List ℕ) × ((m : ℕ) × ((rest : List ℕ) × ((ahead ≡ front ++ m ∷ rest) × (Contains behind m × (way ≡ front ++ reverse behind)))))
+Joins ahead following way = (front : List ℕ) × ((m : ℕ) × ((rest : List ℕ) × ((ahead ≡ front ++ m ∷ rest) × (Contains following m × (way ≡ front ++ reverse following)))))

@@ -22,7 +22,7 @@ pub enum Found {
     /// It does not lead back to itself.
     Nothing,
     /// These references lead from it back to it.
-    WayBack(Vec<usize>),
+    Cycle(Vec<usize>),
     /// A path from it has more nodes of a kind than the bound.
     Deep,
 }
@@ -72,15 +72,15 @@ fn way_round(
     let Some(mut ahead) = follow(alloc, &parts.toward, root, &[center], graph.bound)? else {
         return Ok(Found::Deep);
     };
-    let Some(mut behind) = follow(alloc, &parts.from, last, &ahead, graph.bound)? else {
+    let Some(mut following) = follow(alloc, &parts.from, last, &ahead, graph.bound)? else {
         return Ok(Found::Deep);
     };
-    join(&mut ahead, &mut behind)?;
+    join(&mut ahead, &mut following)?;
     if is_long(graph, &ahead) {
         return Ok(Found::Deep);
     }
     ahead.rotate_left(1);
-    Ok(Found::WayBack(ahead))
+    Ok(Found::Cycle(ahead))
 }
 
 /// What is found of a root: a cycle is over a node of its own part that refers to it. Where there is none, some

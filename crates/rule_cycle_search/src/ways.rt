@@ -30,15 +30,15 @@ pub(crate) fn follow(
 }
 
 /// Makes the whole cycle of a path and one that leads back to a node of it, given from its last node to its first.
-pub(crate) fn join(ahead: &mut Vec<usize>, behind: &mut [usize]) -> Result<(), AllocError>
-    requires { (n : ℕ) × (Contains ahead.old.items n × Contains behind.old n) }
-    ensures { OnOk result (Joins ahead.old.items behind.old ahead.new.items) }
+pub(crate) fn join(ahead: &mut Vec<usize>, following: &mut [usize]) -> Result<(), AllocError>
+    requires { (n : ℕ) × (Contains ahead.old.items n × Contains following.old n) }
+    ensures { OnOk result (Joins ahead.old.items following.old ahead.new.items) }
 {
     while let Some(node) = ahead.pop() {
-        if behind.contains(&node) {
+        if following.contains(&node) {
             break;
         }
     }
-    behind.reverse();
-    ahead.extend_from_slice(behind)
+    following.reverse();
+    ahead.extend_from_slice(following)
 }

@@ -20,7 +20,7 @@ use Rattle.schema_types.specs.Distinct.{AreAllDistinct}
 use Rattle.fault_data.specs.in_rule_definitions.PlacedFaults.{PlacedFault, Told}
 use Rattle.rule_cycle_search.proofs.Lists.{only, Contains-first, not_in_nil}
 use Rattle.rule_cycle_search.specs.declared.graph.Graph.{Graph}
-use Rattle.rule_cycle_search.specs.Graph.{RefersTo, is_first, is_other, IsWayBack, IsDeep}
+use Rattle.rule_cycle_search.specs.Graph.{RefersTo, is_first, is_other, IsCycleThrough, IsDeep}
 use Rattle.rule_cycles.specs.Labels.{Labelled, labels, targets}
 use Rattle.rule_cycles.specs.UseNumbers.{Use, uses_at}
 use Rattle.rule_cycles.specs.UseGraph.{IsUseGraph, IsFlat}
@@ -69,7 +69,7 @@ module _ (s : SchemaTree Place) (distinct : AreAllDistinct s) (g : Graph) (graph
   here : (root : ℕ) (n : List ℕ) (d : Placed Place (DirectiveDefinitionTree Place)) → slice_get s.directives root ≡ Some (n, d) → thing_at s root ≡ Some (ADirective n)
   here root n d h = thing_of_directive s n d root h
 
-  recursive_right : (root : ℕ) (path : List ℕ) (l : List PlacedFault) (f : PlacedFault) → IsWayBack g root path → TellsDirective s root path l → Contains l f → Told s CyclesFail f
+  recursive_right : (root : ℕ) (path : List ℕ) (l : List PlacedFault) (f : PlacedFault) → IsCycleThrough g root path → TellsDirective s root path l → Contains l f → Told s CyclesFail f
   recursive_right root path l f way tells c =
       let e : IsHeadFault root (recursive_directive s root path) f = head_fault root (recursive_directive s root path) l f tells c in
       let n : List ℕ = e.0 in

@@ -18,7 +18,7 @@ use Rattle.fault_data.specs.in_rule_definitions.Cycles.{Referring, RefersToInput
 use Rattle.rule_cycle_search.specs.Paths.{Leads, IsWay, HasNoRepeat}
 use Rattle.schema_types.specs.Distinct.{AreAllDistinct}
 use Rattle.rule_cycle_search.specs.declared.graph.Graph.{Graph}
-use Rattle.rule_cycle_search.specs.Graph.{RefersTo, is_first, is_other, IsWayBack, IsDeep}
+use Rattle.rule_cycle_search.specs.Graph.{RefersTo, is_first, is_other, IsCycleThrough, IsDeep}
 use Rattle.rule_cycles.specs.Labels.{labels}
 use Rattle.rule_cycles.specs.InputGraph.{IsInputGraph}
 use Rattle.rule_cycles.specs.FaultLists.{recursive_input_object_definition, deeply_nested_input_object, TellsInput, TellsDeepInput}
@@ -58,7 +58,7 @@ module _ (s : SchemaTree Place) (distinct : AreAllDistinct s) (g : Graph) (graph
       by None e d = not_in_nil x d
       by (Some e) q d = (e.0, (e.1, (q, only (f e) x d)))
 
-  recursive_right : (root : ℕ) (path : List ℕ) (f : PlacedFault) → IsWayBack g root path → Contains (recursive_input_object_definition s root path) f → Told s CyclesFail f
+  recursive_right : (root : ℕ) (path : List ℕ) (f : PlacedFault) → IsCycleThrough g root path → Contains (recursive_input_object_definition s root path) f → Told s CyclesFail f
   recursive_right root path f way c =
       let e : (n : List ℕ) × ((t : SchemaType Place) × ((slice_get s.types root ≡ Some (n, t)) × (f ≡ wrong t.place (RecursiveInputObjectDefinition n (map (says s distinct) (reverse (labels (Refs s distinct) root path))))))) =
       entry_of (λ (x : List ℕ × SchemaType Place). wrong x.1.place (RecursiveInputObjectDefinition x.0 (map (says s distinct) (reverse (labels (Refs s distinct) root path))))) root f c in

@@ -6,9 +6,9 @@ use Rattle.std.proofs.lemmas.List.Elements.{Contains-append_cases, Contains-appe
 use Rattle.fault_data.specs.Room.{◌⊕◌}
 use Rattle.fault_data.proofs.Room.{room_both}
 use Rattle.rule_cycle_search.specs.declared.graph.Graph.{Graph}
-use Rattle.rule_cycle_search.specs.Graph.{IsWayBack}
+use Rattle.rule_cycle_search.specs.Graph.{IsCycleThrough}
 use Rattle.rule_cycle_search.specs.declared.found.Found.{Found}
-use Rattle.rule_cycle_search.specs.declared.found.Found.TheVariants.{Nothing, WayBack, Deep}
+use Rattle.rule_cycle_search.specs.declared.found.Found.TheVariants.{Nothing, Cycle, Deep}
 use Rattle.rule_cycle_search.specs.Found.{Finds}
 use Rattle.rule_cycles.specs.Telling.{TellsFound, IsOfRoot, TellsRoot, TellsRoots}
 use Rattle.rule_cycle_search.proofs.Lists.{not_in_nil}
@@ -24,14 +24,14 @@ module _ {F : Type 0} (Recursive : ℕ → List ℕ → List F → Type 0) (IsTo
 
   module _ (number : ℕ) (old middle new : List F) (before : TellsRoots Recursive IsTooLong g number old middle) where
     -- nothing is told of this root
-    silent : (same : new ≡ middle) → ((path : List ℕ) → IsWayBack g number path → ⊥) → TellsRoots Recursive IsTooLong g (number + 1) old new
+    silent : (same : new ≡ middle) → ((path : List ℕ) → IsCycleThrough g number path → ⊥) → TellsRoots Recursive IsTooLong g (number + 1) old new
     silent same none = record {
       added = before.added;
       is = same ∙ before.is;
       right = before.right;
       full = λ root h path way. elim (cases_lt root number) [
         | inl low ↦ before.full root low path way
-        | inr high ↦ let here : root ≡ number = omega arith in absurd (none path (subst (λ r. IsWayBack g r path) here way))
+        | inr high ↦ let here : root ≡ number = omega arith in absurd (none path (subst (λ r. IsCycleThrough g r path) here way))
       ];
     }
 
@@ -58,5 +58,5 @@ module _ {F : Type 0} (Recursive : ℕ → List ℕ → List F → Type 0) (IsTo
   -- what is told of a root is what was found of it
   pub TellsRoot-found : (root : ℕ) (found : Found) (l old new : List F) → Finds g root found → TellsFound Recursive IsTooLong root found l → new ≡ old ⊕ l → TellsRoot Recursive IsTooLong g root old new
   TellsRoot-found root Nothing l old new a t e = inl (e ∙ ap (λ k. old ⊕ k) t, a)
-  TellsRoot-found root (WayBack path) l old new a t e = inr (l, (inl (path.items, (a, t)), e))
+  TellsRoot-found root (Cycle path) l old new a t e = inr (l, (inl (path.items, (a, t)), e))
   TellsRoot-found root Deep l old new a t e = inr (l, (inr (a, t), e))

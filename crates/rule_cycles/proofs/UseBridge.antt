@@ -30,7 +30,7 @@ use Rattle.fault_data.proofs.in_rule_definitions.Lookups.{itself, under_found, u
 use Rattle.fault_data.proofs.Judgings.{type_seen, type_look, directive_look, value_look, input_look, named_unplaced, value_there, input_there}
 use Rattle.rule_cycles.specs.Labels.{Labelled, targets}
 use Rattle.rule_cycles.specs.Numbers.{number_of, at_number, each_value}
-use Rattle.rule_cycles.specs.UseNumbers.{Use, used, type_behind, use_references, uses_references, type_reference, input_uses, arguments_uses, definition_uses, part_uses, type_uses, uses_at}
+use Rattle.rule_cycles.specs.UseNumbers.{Use, used, node_of_type, use_references, uses_references, type_reference, input_uses, arguments_uses, definition_uses, part_uses, type_uses, uses_at}
 use Rattle.rule_cycles.specs.DirectiveFaults.{plain_use}
 use Rattle.rule_cycles.proofs.Transport.{IsSoundView, target_there}
 use Rattle.rule_cycles.proofs.Entries.{number_given, number_there, one_number}
@@ -79,7 +79,7 @@ module _ (s : SchemaTree Place) where
 
   abbrev pub number_in : Thing → Option ℕ
   number_in (ADirective n) = number_of n s.directives
-  number_in (AType n) = type_behind s n
+  number_in (AType n) = node_of_type s n
 
   abbrev pub tells_use : By → Option (Placed Place (DirectiveTree (Unit {0})))
   tells_use by = option_map (map_place (spot_place s)) by
@@ -158,7 +158,7 @@ module _ (s : SchemaTree Place) where
   directive_there : (n : List ℕ) (i : ℕ) → number_of n s.directives ≡ Some i → thing_at i ≡ Some (ADirective n)
   directive_there n i h = let r : (d : Placed Place (DirectiveDefinitionTree Place)) × (slice_get s.directives i ≡ Some (n, d)) = number_given n s.directives i h in thing_of_directive n r.0 i r.1
 
-  type_there : (n : List ℕ) (k : ℕ) → type_behind s n ≡ Some k → thing_at k ≡ Some (AType n)
+  type_there : (n : List ℕ) (k : ℕ) → node_of_type s n ≡ Some k → thing_at k ≡ Some (AType n)
   type_there n k h =
       let m : (i : ℕ) × ((number_of n s.types ≡ Some i) × (k ≡ length s.directives + i)) = mapped_some (λ i. length s.directives + i) (number_of n s.types) k h in
       let r : (t : SchemaType Place) × (slice_get s.types m.0 ≡ Some (n, t)) = number_given n s.types m.0 m.1.0 in
@@ -174,7 +174,7 @@ module _ (s : SchemaTree Place) where
       let r : (d : Placed Place (DirectiveDefinitionTree Place)) × (slice_get s.directives i ≡ Some (n, d)) = number_given n s.directives i h in
       ap is_some (directive_look s n) ∙ some_mapped plain_directive_definition (under n s.directives) (there_under n r.0 s.directives (index_given s.directives i (n, r.0) r.1))
 
-  type_defined : (n : List ℕ) (k : ℕ) → type_behind s n ≡ Some k → is_some ((judged s).type_named n) ≡ true
+  type_defined : (n : List ℕ) (k : ℕ) → node_of_type s n ≡ Some k → is_some ((judged s).type_named n) ≡ true
   type_defined n k h =
       let m : (i : ℕ) × ((number_of n s.types ≡ Some i) × (k ≡ length s.directives + i)) = mapped_some (λ i. length s.directives + i) (number_of n s.types) k h in
       let r : (t : SchemaType Place) × (slice_get s.types m.0 ≡ Some (n, t)) = number_given n s.types m.0 m.1.0 in
@@ -230,9 +230,9 @@ module _ (s : SchemaTree Place) where
   IsTyped ty by y = (by ≡ None) × ((y ≡ AType (named_in (unplaced_type ty))) × (is_some ((judged s).type_named (named_in (unplaced_type ty))) ≡ true))
 
   sound_type : (ty : TypeTree Place) → IsSoundPart (IsTyped ty) (type_reference s ty)
-  sound_type ty j l c = by (type_behind s (inner_name ty).it) refl c
+  sound_type ty j l c = by (node_of_type s (inner_name ty).it) refl c
     where
-      by : (o : Option ℕ) → type_behind s (inner_name ty).it ≡ o → Contains (used o None) (j, l) → IsSuch (IsTyped ty) j l
+      by : (o : Option ℕ) → node_of_type s (inner_name ty).it ≡ o → Contains (used o None) (j, l) → IsSuch (IsTyped ty) j l
       by None e m = not_in_nil (j, l) m
       by (Some k) e m =
           let same : (j, l) ≡ (k, None) = only (k, None) (j, l) m in (
@@ -249,7 +249,7 @@ module _ (s : SchemaTree Place) where
   full_type : (ty : TypeTree Place) → IsFullPart (IsTyped ty) (type_reference s ty)
   full_type ty by y j p h = (
     None,
-    subst (λ o. Contains (used o None) (j, None)) (sym (ap (type_behind s) (sym (named_unplaced ty)) ∙ ap number_in (sym p.1.0) ∙ h)) (Contains-first (j, None) [] (j, None) refl),
+    subst (λ o. Contains (used o None) (j, None)) (sym (ap (node_of_type s) (sym (named_unplaced ty)) ∙ ap number_in (sym p.1.0) ∙ h)) (Contains-first (j, None) [] (j, None) refl),
   )
 
   -- ---- arguments' definitions and input fields

@@ -19,8 +19,8 @@ used None by = []
 used (Some i) by = (i, by) ∷ []
 
 module _ (s : SchemaTree Place) where
-  abbrev pub type_behind : List ℕ → Option ℕ
-  type_behind n = option_map (λ i. length s.directives + i) (number_of n s.types)
+  abbrev pub node_of_type : List ℕ → Option ℕ
+  node_of_type n = option_map (λ i. length s.directives + i) (number_of n s.types)
 
   abbrev pub use_references : Placed Place (DirectiveTree Place) → Labelled Use
   use_references d = used (number_of d.it.name.it s.directives) (Some d)
@@ -29,7 +29,7 @@ module _ (s : SchemaTree Place) where
   uses_references ds = flat_map use_references ds
 
   abbrev pub type_reference : TypeTree Place → Labelled Use
-  type_reference ty = used (type_behind (inner_name ty).it) None
+  type_reference ty = used (node_of_type (inner_name ty).it) None
 
   abbrev pub input_uses : InputValueTree Place → Labelled Use
   input_uses v = uses_references v.directives ++ type_reference v.ty.it

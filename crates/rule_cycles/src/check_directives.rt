@@ -32,7 +32,7 @@ pub(crate) fn check_directive_cycles(
     for (root, found) in all.iter().enumerate() {
         match found {
             Found::Nothing => {}
-            Found::WayBack(path) => {
+            Found::Cycle(path) => {
                 recursive_directive_definition(judging, &references, root, path, faults)?;
             }
             Found::Deep => deeply_nested_directive(judging, root, faults)?,

@@ -26,7 +26,7 @@ pub(crate) fn check_input_cycles(
     for (root, found) in all.iter().enumerate() {
         match found {
             Found::Nothing => {}
-            Found::WayBack(path) => {
+            Found::Cycle(path) => {
                 recursive_input_object_definition(judging, &references, root, path, faults)?;
             }
             Found::Deep => deeply_nested_input_object(judging, root, faults)?,

@@ -2,7 +2,7 @@
 ghost use Rattle.std.specs.Prelude.{◌≡◌, length};
 ghost use Rattle.graphql_schema.specs.SchemaOf.{schema_tree};
 ghost use Rattle.rule_cycles.specs.Numbers.{number_of, is_input_object_at, input_object_number};
-ghost use Rattle.rule_cycles.specs.UseNumbers.{type_behind};
+ghost use Rattle.rule_cycles.specs.UseNumbers.{node_of_type};
 
 use graphql_names::Name;
 use graphql_schema::Schema;
@@ -17,7 +17,7 @@ pub(crate) fn type_number(schema: &Schema, name: &Name) -> Option<usize>
 /// The node of the type of that name, if it is defined: in the graph of directives and types directives come
 /// first.
 pub(crate) fn type_node(schema: &Schema, name: &Name) -> Option<usize>
-    ensures { result ≡ type_behind (schema_tree schema.now) name.now.text }
+    ensures { result ≡ node_of_type (schema_tree schema.now) name.now.text }
 {
     let directives = schema.directive_definitions.len();
     let types = schema.types.len();

@@ -4,7 +4,7 @@ use Rattle.std.proofs.lemmas.List.Elements.{All-contains, All-from_recursion}
 use Rattle.rule_definitions.proofs.Lists.{not_in_nil}
 use Rattle.rule_document_definitions.specs.Chains.{Chain, GoTogether, Merge}
 use Rattle.rule_document_definitions.specs.Groups.{AgreeWithHead}
-use Rattle.rule_document_definitions.specs.Settled.{StandIn, HasStart, StartsStand, IsSettledIn, IsUnderWay, IsSettled}
+use Rattle.rule_document_definitions.specs.Settled.{AreInOne, HasStart, StartsStand, IsSettledIn, IsUnderWay, IsSettled}
 
 module _ {F : Type 0} (Below Together Agree : F → F → Type 0) where
   -- ---- what is settled merges
@@ -25,7 +25,7 @@ module _ {F : Type 0} (Below Together Agree : F → F → Type 0) where
   standing_merge Stand ok Starts start f g (c, (d, (p, (q, t)))) = standing_agree Stand ok Starts Starts start c d f g p q t
 
   -- fields of settled lists are settled
-  pub settled_standing : (lists : List (List F)) → IsSettled Below Together Agree lists → IsSettledIn Below Together Agree (StandIn lists)
+  pub settled_standing : (lists : List (List F)) → IsSettled Below Together Agree lists → IsSettledIn Below Together Agree (AreInOne lists)
   settled_standing lists ok = record {
     agree = λ f g s t. ok.agree s.0 f g s.1.0 s.1.1.0 s.1.1.1 t;
     below = λ f g x y s t a b. let n = ok.below s.0 f g s.1.0 s.1.1.0 s.1.1.1 t in (n.0, (n.1.0, (n.1.1 x (inl a), n.1.1 y (inr b))));
@@ -34,7 +34,7 @@ module _ {F : Type 0} (Below Together Agree : F → F → Type 0) where
   -- where one of the settled lists has all that Starts, the fields merge
   pub settled_merge : (lists : List (List F)) → IsSettled Below Together Agree lists → (Starts : F → Type 0) → HasStart Starts (Contains lists) → Merge Below Together Starts Agree
   settled_merge lists ok Starts start =
-      standing_merge (StandIn lists) (settled_standing lists ok) Starts (λ f g a b. (start.0, (start.1.0, (start.1.1 f a, start.1.1 g b))))
+      standing_merge (AreInOne lists) (settled_standing lists ok) Starts (λ f g a b. (start.0, (start.1.0, (start.1.1 f a, start.1.1 g b))))
 
   -- ---- steps of an examination
 

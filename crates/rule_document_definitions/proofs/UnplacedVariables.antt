@@ -19,7 +19,7 @@ use Rattle.rule_document_definitions.specs.Places.{Places}
 use Rattle.rule_document_definitions.specs.Verdict.{no_places}
 use Rattle.rule_document_definitions.specs.Selected.{Standing, as_field, selection_directives}
 use Rattle.rule_document_definitions.specs.Reached.{Reached, ReachesFragment}
-use Rattle.rule_document_definitions.specs.UsedVariables.{StandsInValue, StandsInItems, StandsInEntries, StandsInArguments, StandsInDirectives, StandsInSelection, IsUsedIn, wanted_by}
+use Rattle.rule_document_definitions.specs.UsedVariables.{IsInValue, IsInItems, IsInEntries, IsInArguments, IsInDirectives, IsInSelection, IsUsedIn, wanted_by}
 use Rattle.rule_document_definitions.specs.Variables.{UniqueVariableAt, UniqueDefaultKeyAt, UnusedVariableAt, UndefinedVariableTypeAt, VariableInputTypeAt, DefaultValueBreaks, VariableDirectivesBreak, VariablesBreak}
 use Rattle.rule_document_definitions.proofs.Unplaced.{unplaced_standing, unplaced_field, field_same, reached_without_places, reached_with_places}
 use Rattle.rule_document_definitions.proofs.Moves.{same, either_way, neither, same_present, same_among, same_index, Moves, moves_among, moves_either, moves_where, moves_same, moves_present, moves_index, moves_repeats}
@@ -49,7 +49,7 @@ module _ {P : Type 0} where
 
 module _ {P : Type 0} (n : List ℕ) where
   mutual
-    in_value : (v : ValueTree P) → StandsInValue n v ↔ StandsInValue n (unplaced_value v)
+    in_value : (v : ValueTree P) → IsInValue n v ↔ IsInValue n (unplaced_value v)
     in_value NullTree = same
     in_value (EnumTree m) = same
     in_value (VariableTree v) = same
@@ -60,31 +60,31 @@ module _ {P : Type 0} (n : List ℕ) where
     in_value (ListTree ts) = in_items ts
     in_value (ObjectTree es) = in_entries es
 
-    in_items : (ts : ItemTrees P) → StandsInItems n ts ↔ StandsInItems n (unplaced_items ts)
+    in_items : (ts : ItemTrees P) → IsInItems n ts ↔ IsInItems n (unplaced_items ts)
     in_items no_items = same
     in_items (item_then p v ts) = either_way (in_value v) (in_items ts)
 
-    in_entries : (es : EntryTrees P) → StandsInEntries n es ↔ StandsInEntries n (unplaced_entries es)
+    in_entries : (es : EntryTrees P) → IsInEntries n es ↔ IsInEntries n (unplaced_entries es)
     in_entries no_entries = same
     in_entries (entry_then k p v es) = either_way (in_value v) (in_entries es)
 
-  in_arguments : (given : Arguments P) → StandsInArguments n given ↔ StandsInArguments n (map bare_argument given)
+  in_arguments : (given : Arguments P) → IsInArguments n given ↔ IsInArguments n (map bare_argument given)
   in_arguments given = same_index bare_argument given _ _ (λ i a. in_value a.it.value.it)
 
-  in_directives : (ds : Directives P) → StandsInDirectives n ds ↔ StandsInDirectives n (map bare_directive ds)
+  in_directives : (ds : Directives P) → IsInDirectives n ds ↔ IsInDirectives n (map bare_directive ds)
   in_directives ds = same_index bare_directive ds _ _ (λ i e. in_arguments e.it.arguments)
 
-  in_selection : (x : Standing P) → StandsInSelection n x ↔ StandsInSelection n (unplaced_standing x)
+  in_selection : (x : Standing P) → IsInSelection n x ↔ IsInSelection n (unplaced_standing x)
   in_selection x = either_way
-      (subst (λ l. StandsInDirectives n (selection_directives x.it) ↔ StandsInDirectives n l) (sym (directives_same x.it)) (in_directives (selection_directives x.it)))
+      (subst (λ l. IsInDirectives n (selection_directives x.it) ↔ IsInDirectives n l) (sym (directives_same x.it)) (in_directives (selection_directives x.it)))
       (same_present unplaced_field (as_field x) (as_field (unplaced_standing x)) (field_same x.position x.parent x.it) _ _ (λ f. in_arguments f.head.arguments))
 
   -- a variable is used where it is without places
   used_same : (d : MeantDocument P) (o : MeantOperation P) → IsUsedIn n d o ↔ IsUsedIn n (unplaced_document d) (unplaced_operation o)
   used_same d o = either_way (in_directives o.directives) (either_way
-      (same_among unplaced_standing (Reached d o) (Reached (unplaced_document d) (unplaced_operation o)) (reached_without_places d o) (reached_with_places d o) (StandsInSelection n) (StandsInSelection n) in_selection)
+      (same_among unplaced_standing (Reached d o) (Reached (unplaced_document d) (unplaced_operation o)) (reached_without_places d o) (reached_with_places d o) (IsInSelection n) (IsInSelection n) in_selection)
       (same_among unplaced_fragment (ReachesFragment d o) (ReachesFragment (unplaced_document d) (unplaced_operation o)) (reaches_without_places d o) (reaches_with_places d o)
-      (λ f. StandsInDirectives n f.directives) (λ f. StandsInDirectives n f.directives) (λ f. in_directives f.directives)))
+      (λ f. IsInDirectives n f.directives) (λ f. IsInDirectives n f.directives) (λ f. in_directives f.directives)))
 
 -- ---- rules
 

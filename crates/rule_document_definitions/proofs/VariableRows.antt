@@ -9,7 +9,7 @@ use Rattle.rule_definitions.specs.Diagnostics.{UniqueVariable, UndefinedDefiniti
 use Rattle.rule_definitions.specs.Faults.{FaultAt, wrong}
 use Rattle.rule_definitions.specs.Names.{defined_name}
 use Rattle.rule_document_definitions.specs.Reached.{first}
-use Rattle.rule_document_definitions.specs.UsedVariables.{IsUsedIn, StandsInSelection}
+use Rattle.rule_document_definitions.specs.UsedVariables.{IsUsedIn, IsInSelection}
 use Rattle.rule_document_definitions.specs.Variables.{UniqueVariableAt, DefaultValueBreaks, UndefinedVariableTypeAt, VariableInputTypeAt, UnusedVariableAt}
 use Rattle.rule_document_definitions.proofs.RowWords.{of_present, not_present, not_at_index, at_only, none_before, one_repeats, none_reached, no_fragment}
 use Rattle.rule_document_definitions.proofs.RowParts.{by_numbers, at, small, query_name, int_name, a_name, v_name, int_type, query_type, leaf, leaf_with, operation_of, alone, variable, given, at_root, leaf_at, root}
@@ -79,7 +79,7 @@ int_is_an_input_type fault p = true≢false (of_present int_type (at_only (varia
 v_is_unused : UnusedVariableAt once_v (wrong {E = List ℕ} 2 (UnusedVariable v_name)) by_numbers (alone once_v)
 v_is_unused = (0, (variable 2 v_name int_name, (refl, (not_used, (2, (refl, refl))))))
   where
-    in_a : StandsInSelection v_name (at_root 0 (leaf 4 a_name)) → ⊥
+    in_a : IsInSelection v_name (at_root 0 (leaf 4 a_name)) → ⊥
     in_a (inl h) = not_at_index h
     in_a (inr h) = not_at_index (of_present (leaf_at root 0 query_name 4 None a_name [] []) h)
 

@@ -5,12 +5,12 @@ use Rattle.std.specs.Prelude.{List, Contains, ◌⊎◌}
 
 module _ {F : Type 0} where
   -- both fields are in one of these lists
-  abbrev pub StandIn : List (List F) → F → F → Type 0
-  StandIn lists f g = (list : List F) × (Contains lists list × (Contains list f × Contains list g))
+  abbrev pub AreInOne : List (List F) → F → F → Type 0
+  AreInOne lists f g = (list : List F) × (Contains lists list × (Contains list f × Contains list g))
 
   -- if the two fields go together, both are in one of these lists
   abbrev pub StandWhere : (F → F → Type 0) → List (List F) → F → F → Type 0
-  StandWhere Together lists f g = Together f g → StandIn lists f g
+  StandWhere Together lists f g = Together f g → AreInOne lists f g
 
   -- a list in `Kept` has every field of `Starts`
   abbrev pub HasStart : (F → Type 0) → (List F → Type 0) → Type 0

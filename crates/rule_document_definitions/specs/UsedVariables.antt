@@ -13,35 +13,35 @@ use Rattle.rule_document_definitions.specs.Reached.{AtReached, AtReachedFragment
 module _ {P : Type 0} (n : List ℕ) where
   -- the variable n is in a value, at any depth
   abbrev mutual
-    pub StandsInValue : ValueTree P → Type 0
-    StandsInValue (VariableTree v) = v.it ≡ n
-    StandsInValue (ListTree ts) = StandsInItems ts
-    StandsInValue (ObjectTree es) = StandsInEntries es
-    StandsInValue v = ⊥
+    pub IsInValue : ValueTree P → Type 0
+    IsInValue (VariableTree v) = v.it ≡ n
+    IsInValue (ListTree ts) = IsInItems ts
+    IsInValue (ObjectTree es) = IsInEntries es
+    IsInValue v = ⊥
 
-    pub StandsInItems : ItemTrees P → Type 0
-    StandsInItems no_items = ⊥
-    StandsInItems (item_then p v ts) = StandsInValue v ⊎ StandsInItems ts
+    pub IsInItems : ItemTrees P → Type 0
+    IsInItems no_items = ⊥
+    IsInItems (item_then p v ts) = IsInValue v ⊎ IsInItems ts
 
-    pub StandsInEntries : EntryTrees P → Type 0
-    StandsInEntries no_entries = ⊥
-    StandsInEntries (entry_then k p v es) = StandsInValue v ⊎ StandsInEntries es
+    pub IsInEntries : EntryTrees P → Type 0
+    IsInEntries no_entries = ⊥
+    IsInEntries (entry_then k p v es) = IsInValue v ⊎ IsInEntries es
 
-  abbrev pub StandsInArguments : Arguments P → Type 0
-  StandsInArguments given = AtSomeIndex given (λ i a. StandsInValue a.it.value.it)
+  abbrev pub IsInArguments : Arguments P → Type 0
+  IsInArguments given = AtSomeIndex given (λ i a. IsInValue a.it.value.it)
 
-  abbrev pub StandsInDirectives : Directives P → Type 0
-  StandsInDirectives ds = AtSomeIndex ds (λ i d. StandsInArguments d.it.arguments)
+  abbrev pub IsInDirectives : Directives P → Type 0
+  IsInDirectives ds = AtSomeIndex ds (λ i d. IsInArguments d.it.arguments)
 
-  abbrev pub StandsInSelection : Standing P → Type 0
-  StandsInSelection x = StandsInDirectives (selection_directives x.it) ⊎ Present (as_field x) (λ f. StandsInArguments f.head.arguments)
+  abbrev pub IsInSelection : Standing P → Type 0
+  IsInSelection x = IsInDirectives (selection_directives x.it) ⊎ Present (as_field x) (λ f. IsInArguments f.head.arguments)
 
   -- the operation uses the variable: in its directives, in a selection that it reaches, or in the directives of a fragment that it reaches
   abbrev pub IsUsedIn : MeantDocument P → MeantOperation P → Type 0
   IsUsedIn d o =
-      StandsInDirectives o.directives
-      ⊎ (AtReached d o StandsInSelection
-      ⊎ AtReachedFragment d o (λ f. StandsInDirectives f.directives))
+      IsInDirectives o.directives
+      ⊎ (AtReached d o IsInSelection
+      ⊎ AtReachedFragment d o (λ f. IsInDirectives f.directives))
 
 -- the type of a variable, with its place
 abbrev pub wanted_by : {P : Type 0} → VariableDefinitionTree P → Wanted P

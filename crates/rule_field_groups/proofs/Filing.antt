@@ -130,10 +130,10 @@ module _ {X : Type 0} where
       by true h rest =
           let same : length v.items ≡ length e.1.items = ap (λ (u : Vec X Global). length u.items) (sym (same_Some _ _ h)) in
           omega (arith, long, same, first (e.0, w) es, first e es)
-      by false h rest = behind (rest h long)
+      by false h rest = following (rest h long)
         where
-          behind : count (set_value test es w) ≡ count es + n → count (e ∷ set_value test es w) ≡ count (e ∷ es) + n
-          behind more = omega (arith, more, first e (set_value test es w), first e es)
+          following : count (set_value test es w) ≡ count es + n → count (e ∷ set_value test es w) ≡ count (e ∷ es) + n
+          following more = omega (arith, more, first e (set_value test es w), first e es)
 
   -- one item is added after those under a name
   pub count_pushed : (test : NameValue → Bool) (old new : List (NameValue × Vec X Global)) (v w : Vec X Global) (item : X) → lookup test old ≡ Some v → w.items ≡ v.items ++ item ∷ [] → new ≡ set_value test old w
@@ -142,20 +142,20 @@ module _ {X : Type 0} where
 
   -- where nothing is under it
   pub count_new : (name : NameValue) (w : Vec X Global) (item : X) → w.items ≡ item ∷ [] → (es new : List (NameValue × Vec X Global)) → new ≡ es ++ (name, w) ∷ [] → count new ≡ count es + 1
-  count_new name w item is es new e = ap count e ∙ behind es
+  count_new name w item is es new e = ap count e ∙ following es
     where
       one : length w.items ≡ 1
       one = ap length is
 
-      behind : (es : List (NameValue × Vec X Global)) → count (es ++ (name, w) ∷ []) ≡ count es + 1
-      behind [] = start
+      following : (es : List (NameValue × Vec X Global)) → count (es ++ (name, w) ∷ []) ≡ count es + 1
+      following [] = start
         where
           start : 0 + length w.items ≡ 1
           start = omega (arith, one)
-      behind (f ∷ es) = one_behind (behind es)
+      following (f ∷ es) = one_after (following es)
         where
-          one_behind : count (es ++ (name, w) ∷ []) ≡ count es + 1 → count (f ∷ (es ++ (name, w) ∷ [])) ≡ count (f ∷ es) + 1
-          one_behind more = omega (arith, more, first f (es ++ (name, w) ∷ []), first f es)
+          one_after : count (es ++ (name, w) ∷ []) ≡ count es + 1 → count (f ∷ (es ++ (name, w) ∷ [])) ≡ count (f ∷ es) + 1
+          one_after more = omega (arith, more, first f (es ++ (name, w) ∷ []), first f es)
 
 -- a fact of what is answered from two
 pub from_both : {Y E : Type 0} {P Q R : Y → Type 0} → ((y : Y) → P y → Q y → R y) → (r : Result Y E) → IfOk r P → IfOk r Q → IfOk r R

@@ -13,7 +13,7 @@ use Rattle.rule_field_sets.specs.declared.member.Member.{Member}
 use Rattle.rule_field_sets.specs.declared.field_sets.FieldSets.{FieldSets}
 use Rattle.rule_field_sets.proofs.Meaning.{content_of_member}
 use Rattle.rule_field_groups.specs.Members.{field_of, fields_of, content_of, contents_of, AreMembersOf}
-use Rattle.rule_field_groups.specs.MergeState.{AllStandIn}
+use Rattle.rule_field_groups.specs.MergeState.{AllAreInOne}
 use Rattle.rule_field_groups.proofs.Lists.{taken_more}
 
 -- the list at a place has the number of each of these members
@@ -39,7 +39,7 @@ module _ (w : FieldSets) (are : AreSets w) (lists : NumberLists) (place : ℕ) w
       (subst (Contains (map (content_at w) (list_at lists place))) reads (in_map (content_at w) (list_at lists place) m.0.number (has m.0 m.1.0)))
 
   pub stand_kept : (ones others : List Member) → AreMembersOf w ones → AreMembersOf w others → HasNumbers lists place ones → HasNumbers lists place others
-      → AllStandIn (map (map (content_at w)) (lists_kept lists)) (contents_of ones) (contents_of others)
+      → AllAreInOne (map (map (content_at w)) (lists_kept lists)) (contents_of ones) (contents_of others)
   stand_kept ones others all so has too x y a b =
       let list = list_at lists place in
       let x_there = in_list ones all has x a in

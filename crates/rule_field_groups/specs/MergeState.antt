@@ -7,7 +7,7 @@ use Rattle.list_interner.specs.NumberLists.{HaveSame, lists_kept}
 use Rattle.list_interner.specs.NumberPairs.{pairs_kept}
 use Rattle.list_interner.specs.NumberSet.{numbers_in}
 use Rattle.rule_selection_queries.specs.in_document_definitions.ReadFields.{ReadField, ReadSet}
-use Rattle.rule_selection_queries.specs.in_document_definitions.Settled.{StandIn}
+use Rattle.rule_selection_queries.specs.in_document_definitions.Settled.{AreInOne}
 use Rattle.rule_field_sets.specs.Read.{content_at, set_content_at, set_at}
 use Rattle.rule_field_sets.specs.declared.field_sets.FieldSets.{FieldSets}
 use Rattle.rule_field_groups.specs.Under.{Sets, sets_in}
@@ -56,8 +56,8 @@ module _ (w : FieldSets) where
   beside_of r = (account_of r, sets_in w r.next)
 
 -- each of the `ones` is with each of the `others` in one of these lists
-abbrev pub AllStandIn : List (List ReadField) → List ReadField → List ReadField → Type 0
-AllStandIn lists ones others = (x y : ReadField) → Contains ones x → Contains others y → StandIn lists x y
+abbrev pub AllAreInOne : List (List ReadField) → List ReadField → List ReadField → Type 0
+AllAreInOne lists ones others = (x y : ReadField) → Contains ones x → Contains others y → AreInOne lists x y
 
 -- a new list of contents is added, at any index and in any order, and no old list has the same members, if neither has anything twice;
 -- for a list that is not new, an old list has the same members, or the list is empty; then nothing changes

@@ -8,7 +8,7 @@ ghost use Rattle.rule_field_sets.specs.declared.field_sets.FieldSets.{FieldSets}
 ghost use Rattle.rule_field_groups.specs.Members.{contents_of, meant_sets, read_sets, AreMembersOf, contents_of_two};
 ghost use Rattle.rule_field_groups.specs.Under.{sets_in};
 ghost use Rattle.rule_field_groups.specs.Paid.{OnlyMeets, Pays, IsPaidIf, no_account};
-ghost use Rattle.rule_field_groups.specs.MergeState.{remembered, kept_of, account_of, beside_of, nothing_kept, AllStandIn, Remembers, RemembersPaid, LooksAt, Expands, IsKnown};
+ghost use Rattle.rule_field_groups.specs.MergeState.{remembered, kept_of, account_of, beside_of, nothing_kept, AllAreInOne, Remembers, RemembersPaid, LooksAt, Expands, IsKnown};
 
 use crate::budget::{FOR_EACH_FIELD, charge, left_of};
 use crate::node_walk::{MergedList, Toll};
@@ -174,7 +174,7 @@ impl MergeState {
     /// Whether all of these fields are found to be in one list that was examined. It answers no if they are so few that
     /// comparing them takes less time.
     pub fn stand_together(&self, ones: &[Member<'_>], others: &[Member<'_>]) -> bool
-        ensures { IsTrue result → (w : FieldSets) → AreSets w → AreMembersOf w ones.now → AreMembersOf w others.now → AllStandIn (remembered w self.now) (contents_of ones.now) (contents_of others.now) }
+        ensures { IsTrue result → (w : FieldSets) → AreSets w → AreMembersOf w ones.now → AreMembersOf w others.now → AllAreInOne (remembered w self.now) (contents_of ones.now) (contents_of others.now) }
     {
         if !are_many(ones.len(), others.len()) {
             return false;

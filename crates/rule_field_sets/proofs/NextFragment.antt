@@ -16,10 +16,10 @@ use Rattle.rule_field_sets.specs.declared.field_sets.FieldSets.{FieldSets}
 use Rattle.rule_field_sets.specs.Nodes.{fragments_in, fragment_nodes}
 use Rattle.rule_field_sets.specs.Added.{IsNextFragment}
 
-none_behind : {X : Type 0} (xs : List X) (i : ℕ) → None ≡ slice_get xs i → length xs ≤ i
-none_behind [] i e = omega arith
-none_behind (x ∷ xs) zero e = cc
-none_behind (x ∷ xs) (suc i) e = omega (none_behind xs i e, arith)
+none_following : {X : Type 0} (xs : List X) (i : ℕ) → None ≡ slice_get xs i → length xs ≤ i
+none_following [] i e = omega arith
+none_following (x ∷ xs) zero e = cc
+none_following (x ∷ xs) (suc i) e = omega (none_following xs i e, arith)
 
 abbrev named : NameValue × Node Fragment → NamedSet Place
 named e = (e.0.text, fragment_set e.1)
@@ -45,10 +45,10 @@ module _ (a w : FieldSets) (same : w.fragments ≡ a.fragments) (i : ℕ) (last 
   -- where there is none, all have nodes
   pub none_next : None ≡ slice_get a.fragments.now.entries i → length (fragments_in w) ≤ length (fragment_nodes w)
   none_next e =
-      let behind : length a.fragments.now.entries ≤ i = none_behind a.fragments.now.entries i e in
+      let following : length a.fragments.now.entries ≤ i = none_following a.fragments.now.entries i e in
       let count : length (fragments_in a) ≡ length a.fragments.now.entries = entries_of a in
       let same_count : length (fragments_in a) ≡ length (fragments_in w) = ap length fragments_same in
-      omega (behind, count, same_count, last, arith)
+      omega (following, count, same_count, last, arith)
 
   -- and where there is one, fewer are left with one node more
   pub fewer_next : (f : TypedSet Place) (b : FieldSets) → IsNextFragment w f → length (fragment_nodes b) ≡ length (fragment_nodes w) + 1 → length (fragments_in a) - length (fragment_nodes b) < length (fragments_in a) - length (fragment_nodes w)

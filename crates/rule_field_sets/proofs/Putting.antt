@@ -62,7 +62,7 @@ all_left nodes last found count = record {
   front = ([], sym (append-nil found));
   count = count;
   whole = omega (count, arith);
-  done = λ p v behind at. absurd (omega (slice_get_within found p v at, behind, arith));
+  done = λ p v following at. absurd (omega (slice_get_within found p v at, following, arith));
 }
 
 set_there : (found : List FoundSet) (p : ℕ) (s : TypedSet Place) → slice_get (sets_at found) p ≡ Some s → (v : FoundSet) × ((slice_get found p ≡ Some v) × (set_at v ≡ s))
@@ -92,9 +92,9 @@ module _ (nodes : List SetNode) (last : ℕ) (found left rest : List FoundSet) (
     where
       ready_below : (f : FoundField) (below : Option ℕ) → IsBelow (length rest) (sets_at found) (set_of f) below → IsFoundBelow nodes last (set_of f) below
       ready_below f None none = none
-      ready_below f (Some p) (some, (behind, at)) =
+      ready_below f (Some p) (some, (following, at)) =
           let u = set_there found p (set_of f) at in
-          let node : IsNodeOf nodes (last - p) (set_at u.0) = so_far.done p u.0 (omega (one_fewer, behind, arith)) u.1.0 in
+          let node : IsNodeOf nodes (last - p) (set_at u.0) = so_far.done p u.0 (omega (one_fewer, following, arith)) u.1.0 in
           (some, (omega (slice_get_within found p u.0 u.1.0, so_far.whole, arith), (node.0, (node.1.0, node.1.1 ∙ u.1.1))))
 
   -- where its node is put, one fewer is left
@@ -103,9 +103,9 @@ module _ (nodes : List SetNode) (last : ℕ) (found left rest : List FoundSet) (
     front = (v ∷ so_far.front.0, so_far.front.1 ∙ (ap (λ l. l ++ so_far.front.0) popped ∙ append_assoc rest (v ∷ []) so_far.front.0));
     count = omega (so_far.count, one_fewer, ap length pushed ∙ length_push nodes n, arith);
     whole = so_far.whole;
-    done = λ p u behind at. elim (cases_lt p (length left)) [
+    done = λ p u following at. elim (cases_lt p (length left)) [
       | inl low ↦
-          let same : p ≡ length rest = omega (low, one_fewer, behind, arith) in
+          let same : p ≡ length rest = omega (low, one_fewer, following, arith) in
           let one : v ≡ u = inside v u (sym here ∙ (ap (slice_get found) (sym same) ∙ at)) in
           let place : last - p ≡ length nodes = omega (so_far.count, one_fewer, same, arith) in
           (n, (subst (λ i. slice_get more i ≡ Some n) (sym place) (subst (λ l. slice_get l (length nodes) ≡ Some n) (sym pushed) (last_at nodes n)), is ∙ ap set_at one))

@@ -16,8 +16,8 @@ use Rattle.rule_definitions.specs.PlacedFaults.{PlacedFault}
 use Rattle.rule_definitions.proofs.Lists.{index_given}
 use Rattle.rule_cycle_search.specs.Paths.{Leads, IsWay, HasNoRepeat}
 use Rattle.rule_cycle_search.specs.declared.found.Found.{Found}
-use Rattle.rule_cycle_search.specs.declared.found.Found.TheVariants.{Nothing, WayBack, Deep}
-use Rattle.rule_cycle_search.specs.Graph.{RefersTo, is_first, is_other, IsWayBack, IsDeep}
+use Rattle.rule_cycle_search.specs.declared.found.Found.TheVariants.{Nothing, Cycle, Deep}
+use Rattle.rule_cycle_search.specs.Graph.{RefersTo, is_first, is_other, IsCycleThrough, IsDeep}
 use Rattle.rule_cycle_search.proofs.Lists.{only, Contains-first, not_in_nil}
 use Rattle.rule_document_definitions.specs.Selected.{fragments}
 use Rattle.rule_document_definitions.specs.Fragments.{RefersBySpread, ReachesItself}
@@ -44,7 +44,7 @@ map_itself (x ∷ xs) = ap (λ l. x ∷ l) (map_itself xs)
 pub found_same : (r : References (Node FragmentSpread)) (o q : ℕ → Option (MeantFragment Place)) (root : ℕ) (found : Found) (l : List PlacedFault) → o root ≡ q root
     → TellsFound (TellsRecursive r o) (TellsDeep r o) root found l → TellsFound (TellsRecursive r q) (TellsDeep r q) root found l
 found_same r o q root Nothing l e t = t
-found_same r o q root (WayBack path) l e t = subst (λ w. Tells (IsRecursiveFault (spread_trace r root path.items)) w l) e t
+found_same r o q root (Cycle path) l e t = subst (λ w. Tells (IsRecursiveFault (spread_trace r root path.items)) w l) e t
 found_same r o q root Deep l e t = subst (λ w. Tells IsDeepFault w l) e t
 
 module _ (d : MeantDocument Place) (own : AreUnderOwnNames d) (names : List (List ℕ)) (used : AreUsed d names) (r : References (Node FragmentSpread)) (are : AreSpreadReferences d.fragments r) where
@@ -104,7 +104,7 @@ module _ (d : MeantDocument Place) (own : AreUnderOwnNames d) (names : List (Lis
 
   -- ---- what is told is right
 
-  recursive_right : (root : ℕ) (path : List ℕ) (l : List PlacedFault) (x : PlacedFault) → IsWayBack r.graph root path → TellsRecursive r o root path l → Contains l x → FragmentCyclesFail d x
+  recursive_right : (root : ℕ) (path : List ℕ) (l : List PlacedFault) (x : PlacedFault) → IsCycleThrough r.graph root path → TellsRecursive r o root path l → Contains l x → FragmentCyclesFail d x
   recursive_right root path l x way tells c =
       let e : IsOne (IsRecursiveFault (spread_trace r root path)) root x = one_told (IsRecursiveFault (spread_trace r root path)) root l x tells c in
       let f : MeantFragment Place = e.0 in

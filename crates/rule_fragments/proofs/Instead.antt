@@ -17,7 +17,7 @@ use Rattle.document_typed_operations.specs.declared.operation.Fragment.{Fragment
 use Rattle.spec_document.specs.MeantTree.{MeantFragment}
 use Rattle.rule_reach.specs.in_typed_operations.DocumentView.{meant_by_fragment}
 use Rattle.rule_fragments.specs.SpreadViews.{fragment_meant}
-use Rattle.rule_fragments.specs.Thinned.{Leaves, StandIn}
+use Rattle.rule_fragments.specs.Thinned.{Leaves, MayReplace}
 use Rattle.rule_fragments.proofs.Thinning.{leaves_same}
 
 -- what entries mean
@@ -25,8 +25,8 @@ abbrev pub meant_entries : List (NameValue × Node Fragment) → Entries (MeantF
 meant_entries es = map (λ (e : List ℕ × Placed Place (TypedFragment Place)). (e.0, meant_by_fragment e.1)) (map (λ (e : NameValue × Node Fragment). (e.0.text, node_tree typed_fragment_tree e.1)) es)
 
 -- the fragments of a document may replace themselves
-pub stand_in_same : (d : Bool) (fragments : Entries (MeantFragment Place)) → StandIn d fragments fragments
-stand_in_same d fragments = record { there = λ n g is. (g, (is, leaves_same d g.set)); absent = λ n is. is }
+pub replaces_itself : (d : Bool) (fragments : Entries (MeantFragment Place)) → MayReplace d fragments fragments
+replaces_itself d fragments = record { there = λ n g is. (g, (is, leaves_same d g.set)); absent = λ n is. is }
 
 -- ---- a copy
 
@@ -84,9 +84,9 @@ module _ (k : NameValue) (v : Node Fragment) (n : List ℕ) where
           (later_is (bytes_eq n e.0.text) e (under n (meant_entries (insert_entry (same_text name_text) es k v))) (under n (meant_entries es)) rest)
 
 -- another stands there for a fragment
-pub stand_in_more : (d : Bool) (fragments old new : Entries (MeantFragment Place)) (k : NameValue) (g : MeantFragment Place) (v : Node Fragment) → under k.text fragments ≡ Some g → Leaves d (fragment_meant v).set g.set
-    → ((n : List ℕ) → Replaced k v n (under n new) (under n old)) → StandIn d fragments old → StandIn d fragments new
-stand_in_more d fragments old new k g v is leaves write in' = record { there = there; absent = absent }
+pub replaces_more : (d : Bool) (fragments old new : Entries (MeantFragment Place)) (k : NameValue) (g : MeantFragment Place) (v : Node Fragment) → under k.text fragments ≡ Some g → Leaves d (fragment_meant v).set g.set
+    → ((n : List ℕ) → Replaced k v n (under n new) (under n old)) → MayReplace d fragments old → MayReplace d fragments new
+replaces_more d fragments old new k g v is leaves write in' = record { there = there; absent = absent }
   where
     there : (n : List ℕ) (x : MeantFragment Place) → under n fragments ≡ Some x → (h : MeantFragment Place) × ((under n new ≡ Some h) × Leaves d h.set x.set)
     there n x at = elim (write n) [

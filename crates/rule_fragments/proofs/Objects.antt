@@ -32,8 +32,8 @@ object_kind kind.Enum e = absurd (true≢false (sym e))
 object_kind kind.InputObject e = absurd (true≢false (sym e))
 
 -- an element after the first
-behind : {X : Type 0} (x : X) (xs : List X) (y : X) → Contains xs y → Contains (x ∷ xs) y
-behind x xs y c = Contains-append_right (x ∷ []) xs y c
+following : {X : Type 0} (x : X) (xs : List X) (y : X) → Contains xs y → Contains (x ∷ xs) y
+following x xs y c = Contains-append_right (x ∷ []) xs y c
 
 module _ (s : SchemaTree Place) (differ : IsDistinct bytes_eq (keys_of s.types)) where
   abbrev Entry : Type 0
@@ -112,7 +112,7 @@ module _ (s : SchemaTree Place) (differ : IsDistinct bytes_eq (keys_of s.types))
           | inr r ↦ elim r [
             | inl listed ↦
                 let among : is_among n (map given_name t.0.interfaces) ≡ true = sym (interface_look t.0 n) ∙ sym (ap (λ (v : TypeLooks). v.implements n) t.1.1) ∙ listed in
-                given_in (type_notes s) (n, x) s.types (x, t.0) there (own_notes (x, t.0) object (behind (x, x) (interface_notes x (map given_name t.0.interfaces)) (n, x)
+                given_in (type_notes s) (n, x) s.types (x, t.0) there (own_notes (x, t.0) object (following (x, x) (interface_notes x (map given_name t.0.interfaces)) (n, x)
                 (given_in (λ i. (i, x) ∷ []) (n, x) (map given_name t.0.interfaces) n (text_given (map given_name t.0.interfaces) n among) (Contains-first (n, x) [] (n, x) refl))))
             | inr (v, (is', member)) ↦
                 let w = stands n v is' in

@@ -44,15 +44,15 @@ all_operations d os is =
     sym (meant_twice os) ∙ ap (map meant_by_operation) is ∙ meant_listed t.anonymous t.named
 
 -- one operation more
-pub one_behind : (os : List (Bor (Node Operation))) (o : Bor (Node Operation)) → lent_operations (os ++ o ∷ []) ≡ lent_operations os ++ lent_operation o ∷ []
-one_behind [] o = refl
-one_behind (p ∷ os) o = ap (λ l. lent_operation p ∷ l) (one_behind os o)
+pub one_after : (os : List (Bor (Node Operation))) (o : Bor (Node Operation)) → lent_operations (os ++ o ∷ []) ≡ lent_operations os ++ lent_operation o ∷ []
+one_after [] o = refl
+one_after (p ∷ os) o = ap (λ l. lent_operation p ∷ l) (one_after os o)
 
 -- those that were lent and those that are left
 pub lent_more : (os : List (Bor (Node Operation))) (o : Bor (Node Operation)) (all : List (MeantOperation Place)) (left rest : List (Node Operation)) → left ≡ o.now ∷ rest
     → lent_operations os ++ map operation_meant left ≡ all → lent_operations (os ++ o ∷ []) ++ map operation_meant rest ≡ all
 lent_more os o all left rest is so_far =
-    ap (λ l. l ++ map operation_meant rest) (one_behind os o)
+    ap (λ l. l ++ map operation_meant rest) (one_after os o)
     ∙ append_assoc (lent_operations os) (lent_operation o ∷ []) (map operation_meant rest)
     ∙ ap (λ l. lent_operations os ++ map operation_meant l) (sym is)
     ∙ so_far

@@ -18,7 +18,7 @@ use Rattle.rule_document_definitions.specs.Subscriptions.{SubscriptionUsesIntros
 use Rattle.rule_document_definitions.specs.DeferUses.{MayBeLeftOut, ReachedAlways, IsConditional}
 use Rattle.rule_document_definitions.specs.Defer.{DeferBreaks}
 use Rattle.rule_selection_queries.specs.Stays.{is_directive}
-use Rattle.rule_fragments.specs.Thinned.{listed, set_listed, has_noted, is_quiet, are_quiet, all_quiet, StandIn}
+use Rattle.rule_fragments.specs.Thinned.{listed, set_listed, has_noted, is_quiet, are_quiet, all_quiet, MayReplace}
 use Rattle.rule_selection_queries.proofs.Staying.{and_both, or_left, or_right, not_true, index_any, so_named}
 use Rattle.rule_fragments.proofs.Listing.{filtered}
 use Rattle.rule_selection_queries.proofs.Mapped.{mapped_in, in_mapped}
@@ -137,7 +137,7 @@ module _ {P : Type 0} where
 
     -- ---- with fragments that replace others
 
-    module _ (d w : MeantDocument P) (in' : StandIn deferred d.fragments w.fragments) where
+    module _ (d w : MeantDocument P) (in' : MayReplace deferred d.fragments w.fragments) where
       less : (s : MeantSelection P) (y : Standing P) → Into d s y → ((z : Standing P) × (Into w s z × Alike y z)) ⊎ Quiet y
       less s y (n, (e, (f, (named, c)))) =
           let g = in'.there n f named in
@@ -215,7 +215,7 @@ module _ {P : Type 0} where
   leads_so d x y q (inl i) = field_so x.position x.parent x.it y q i
   leads_so d x y q (inr i) = fragment_so true d x y q i
 
-  module _ (d w : MeantDocument P) (in' : StandIn true d.fragments w.fragments) where
+  module _ (d w : MeantDocument P) (in' : MayReplace true d.fragments w.fragments) where
     less_leads : (x y z : Standing P) → Alike x z → LeadsInto d x y × (MayBeLeftOut y → ⊥) → ((v : Standing P) × ((LeadsInto w z v × (MayBeLeftOut v → ⊥)) × Alike y v)) ⊎ Quiet true y
     less_leads x y z same (inl i, k) =
         let v = into_field true d w in' x y z same i in
@@ -286,7 +286,7 @@ module _ {P : Type 0} where
 
 -- ---- the rules on the root of a subscription, but that on its count
 
-module _ {P : Type 0} (d w : MeantDocument P) (in' : StandIn false d.fragments w.fragments) (o : MeantOperation P) (fault : Broken P) where
+module _ {P : Type 0} (d w : MeantDocument P) (in' : MayReplace false d.fragments w.fragments) (o : MeantOperation P) (fault : Broken P) where
   abbrev told_condition : Placed P (DirectiveTree P) → Type 0
   told_condition e = Contains (codes "skip" ∷ codes "include" ∷ []) (directive_name e) × (fault ≡ broken e.place (SubscriptionUsesConditionalSelection (operation_name o)))
 

@@ -28,7 +28,7 @@ use Rattle.rule_reach.specs.Reach.{Member, IsReach}
 use Rattle.rule_reach.proofs.AtReaches.{at_reached}
 use Rattle.rule_fragments.specs.Held.{may_apply}
 use Rattle.rule_fragments.specs.Possible.{ObjectsOfTypes, ArePossible}
-use Rattle.rule_fragments.specs.Applied.{ApplicationTree, stands_on_its_type, all_stand_on_their_types, spread_told, application_fault, invalid_fragment_spread}
+use Rattle.rule_fragments.specs.Applied.{ApplicationTree, is_on_its_type, all_are_on_their_types, spread_told, application_fault, invalid_fragment_spread}
 use Rattle.rule_fragments.proofs.Sharing.{refused}
 
 none_is : {A B : Type 0} (x : A) → None ≡ Some x → B
@@ -56,7 +56,7 @@ module _ (s : SchemaTree Place) (fragments : Entries (MeantFragment Place)) (t :
   abbrev on_its_type : Option ApplicationTree → Bool
   on_its_type o = option_map_or (λ a. bytes_eq a.condition t) o true
 
-  unbroken : (x : MeantSelection Place) → stands_on_its_type fragments (t, x) ≡ true → (f : PlacedFault) → Breaks x f → ⊥
+  unbroken : (x : MeantSelection Place) → is_on_its_type fragments (t, x) ≡ true → (f : PlacedFault) → Breaks x f → ⊥
   unbroken (MeantField at d h v) stands f q = elim q [ inl h' ↦ none_is h'.0 h'.1.0 | inr h' ↦ none_is h'.0 h'.1.0 ]
   unbroken (MeantSpread at n ds) stands f q = elim q [
     | inl h ↦
@@ -126,12 +126,12 @@ module _ (d : MeantDocument Place) (o : MeantOperation Place) (reached : List (M
 
 -- of selections that apply no fragment, or one on the type of their set, nothing is told, whatever types are possible
 module _ (d : MeantDocument Place) (o : MeantOperation Place) (reached : List (Member Place)) (spread : List (MeantFragment Place)) (reach : IsReach d (own o) reached spread) (s : SchemaTree Place) (fragments : Entries (MeantFragment Place)) (same : d.fragments ≡ fragments) where
-  each_stands : all_stand_on_their_types fragments reached ≡ true → (e : Member Place) → Contains reached e → stands_on_its_type d.fragments e ≡ true
+  each_stands : all_are_on_their_types fragments reached ≡ true → (e : Member Place) → Contains reached e → is_on_its_type d.fragments e ≡ true
   each_stands all e there =
-      let here = ap (λ fs. all_stand_on_their_types fs reached) same ∙ all in
-      All-contains (λ e. stands_on_its_type d.fragments e ≡ true) reached e (AllPass-from_list_all (stands_on_its_type d.fragments) reached here) there
+      let here = ap (λ fs. all_are_on_their_types fs reached) same ∙ all in
+      All-contains (λ e. is_on_its_type d.fragments e ≡ true) reached e (AllPass-from_list_all (is_on_its_type d.fragments) reached here) there
 
-  pub gains_on_their_types : all_stand_on_their_types fragments reached ≡ true → (a b : List PlacedFault) → Gains a b (λ f. InvalidFragmentTargetAt (judged s) d o f)
+  pub gains_on_their_types : all_are_on_their_types fragments reached ≡ true → (a b : List PlacedFault) → Gains a b (λ f. InvalidFragmentTargetAt (judged s) d o f)
       → Gains a b (λ f. InvalidFragmentTargetAt (judged s) d o f ⊎ InvalidFragmentSpreadAt (judged s) d o f (places_in s))
   gains_on_their_types all a b before =
       gains_both a b b before (gains_nothing b (λ f. InvalidFragmentSpreadAt (judged s) d o f (places_in s)) (λ f h.

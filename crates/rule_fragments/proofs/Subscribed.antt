@@ -21,7 +21,7 @@ use Rattle.rule_fragments.specs.Used.{AreUnderOwnNames}
 use Rattle.rule_selection_queries.specs.Stays.{is_directive}
 use Rattle.rule_fragments.specs.ListedBreaches.{fields_in, field_count, introspection, conditional, at_root}
 use Rattle.rule_fragments.specs.Rooted.{Apart, AreRoots, HasSeveralFields}
-use Rattle.rule_fragments.specs.Thinned.{StandIn}
+use Rattle.rule_fragments.specs.Thinned.{MayReplace}
 use Rattle.rule_selection_queries.proofs.Mapped.{in_mapped}
 use Rattle.rule_selection_queries.proofs.Staying.{or_cases, or_left, or_right, named_so, so_named}
 use Rattle.rule_selection_queries.proofs.Found.{name_here}
@@ -194,7 +194,7 @@ several_fields d o ss (xs, (is, (roots, apart))) own = (
   (λ has. subst (λ l. 1 < field_count l) is (as_several d o xs roots has)),
 )
 
-module _ {P : Type 0} (d w : MeantDocument P) (in' : StandIn false d.fragments w.fragments) (o : MeantOperation P) where
+module _ {P : Type 0} (d w : MeantDocument P) (in' : MayReplace false d.fragments w.fragments) (o : MeantOperation P) where
   -- what is told of them, where the fragments of `w` replace those of `d`
   roots_told : (ss : List (MeantSelection P)) → AreRoots w o ss → (fault : Broken P)
       → Contains (flat_map (at_root o) ss) fault ↔ (SubscriptionUsesIntrospectionAt d o fault ⊎ SubscriptionUsesConditionalSelectionAt d o fault)

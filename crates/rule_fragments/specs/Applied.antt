@@ -32,11 +32,11 @@ application_in fragments (MeantSpread p n ds) = option_map (λ f. record { name 
 application_in fragments (MeantInline p c ds s) = option_map (λ n. record { name = None; condition = n.it; place = p; fragment_place = p }) c
 
 -- the selection, with the name of the type of its set before it, applies no fragment, or one on that very type
-abbrev pub stands_on_its_type : Entries (MeantFragment Place) → Member Place → Bool
-stands_on_its_type fragments e = option_map_or (λ a. bytes_eq a.condition e.0) (application_in fragments e.1) true
+abbrev pub is_on_its_type : Entries (MeantFragment Place) → Member Place → Bool
+is_on_its_type fragments e = option_map_or (λ a. bytes_eq a.condition e.0) (application_in fragments e.1) true
 
-abbrev pub all_stand_on_their_types : Entries (MeantFragment Place) → List (Member Place) → Bool
-all_stand_on_their_types fragments = list_all (stands_on_its_type fragments)
+abbrev pub all_are_on_their_types : Entries (MeantFragment Place) → List (Member Place) → Bool
+all_are_on_their_types fragments = list_all (is_on_its_type fragments)
 
 module _ (s : SchemaTree Place) where
   -- the fault of a fragment that cannot apply in a set on the type `parent`

@@ -43,9 +43,9 @@ module _ {P : Type 0} where
         × ((s : MeantSelection P) → Contains (set_listed whole) s → Contains (set_listed left) s ⊎ (is_quiet s ≡ true))
 
     -- `instead` has names where `fragments` has names, and under each a fragment that leaves out only quiet selections of the one of that name
-    pub record StandIn (fragments instead : Entries (MeantFragment P)) : Type 0 where
+    pub record MayReplace (fragments instead : Entries (MeantFragment P)) : Type 0 where
       pub there : (n : List ℕ) (g : MeantFragment P) → under n fragments ≡ Some g → (h : MeantFragment P) × ((under n instead ≡ Some h) × Leaves h.set g.set)
       pub absent : (n : List ℕ) → under n fragments ≡ None → under n instead ≡ None
 
-    abbrev pub StillStandIn : Entries (MeantFragment P) → Entries (MeantFragment P) → Entries (MeantFragment P) → Type 0
-    StillStandIn fragments old new = StandIn fragments old → StandIn fragments new
+    abbrev pub StillMayReplace : Entries (MeantFragment P) → Entries (MeantFragment P) → Entries (MeantFragment P) → Type 0
+    StillMayReplace fragments old new = MayReplace fragments old → MayReplace fragments new

@@ -13,7 +13,7 @@ ghost use Rattle.rule_document_definitions.specs.Fragments.{InvalidFragmentTarge
 ghost use Rattle.rule_document_definitions.specs.PlacedDocumentFaults.{places_in};
 ghost use Rattle.rule_reach.specs.Reach.{IsReachOf, meant_fragments, reached_members};
 ghost use Rattle.rule_fragments.specs.Possible.{ArePossible, ArePossibleIfFound};
-ghost use Rattle.rule_fragments.specs.Applied.{application_tree, application_in, stands_on_its_type, all_stand_on_their_types};
+ghost use Rattle.rule_fragments.specs.Applied.{application_tree, application_in, is_on_its_type, all_are_on_their_types};
 ghost use Rattle.rule_fragments.specs.Telling.{AddsThese, invalid_spread, invalid_spreads};
 
 use crate::names::copied_name;
@@ -89,8 +89,8 @@ fn application_of<'doc>(
 }
 
 /// Whether the selection applies no fragment, or one on the very type of its set, which is `parent`.
-fn stands_on_its_type(fragments: &FragmentMap, parent: &Name, selection: &Selection) -> bool
-    ensures { result ≡ stands_on_its_type (meant_fragments fragments.now) (parent.now.text, meant (typed_selection_tree selection.now)) }
+fn is_on_its_type(fragments: &FragmentMap, parent: &Name, selection: &Selection) -> bool
+    ensures { result ≡ is_on_its_type (meant_fragments fragments.now) (parent.now.text, meant (typed_selection_tree selection.now)) }
 {
     match application_of(selection, fragments) {
         None => true,
@@ -99,11 +99,11 @@ fn stands_on_its_type(fragments: &FragmentMap, parent: &Name, selection: &Select
 }
 
 /// Whether each fragment is on the very type of the set that applies it. Then it can apply, whatever types are possible.
-fn all_stand_on_their_types(fragments: &FragmentMap, reach: &Reach<'_>) -> bool
-    ensures { result ≡ all_stand_on_their_types (meant_fragments fragments.now) (reached_members reach.now) }
+fn all_are_on_their_types(fragments: &FragmentMap, reach: &Reach<'_>) -> bool
+    ensures { result ≡ all_are_on_their_types (meant_fragments fragments.now) (reached_members reach.now) }
 {
     for (parent, selection) in &reach.selections {
-        if !stands_on_its_type(fragments, parent, selection) {
+        if !is_on_its_type(fragments, parent, selection) {
             return false;
         }
     }
@@ -194,10 +194,10 @@ pub fn check_applications(
     ensures told { OnOk result ((d : MeantDocument Place) (o : MeantOperation Place) → IsReachOf d o reach.now → d.fragments ≡ meant_fragments fragments.now → ArePossibleIfFound (judged (schema_tree schema.now)) possible.old → Adds faults.old faults.new (λ f. InvalidFragmentTargetAt (judged (schema_tree schema.now)) d o f ⊎ InvalidFragmentSpreadAt (judged (schema_tree schema.now)) d o f (places_in (schema_tree schema.now)))) }
     ensures right { OnOk result (ArePossibleIfFound (judged (schema_tree schema.now)) possible.old → ArePossibleIfFound (judged (schema_tree schema.now)) possible.new) }
     ensures once { OnOk result (IfSome possible.old (λ p. possible.new ≡ Some p)) }
-    ensures unneeded { OnOk result (all_stand_on_their_types (meant_fragments fragments.now) (reached_members reach.now) ≡ true → possible.new ≡ possible.old) }
+    ensures unneeded { OnOk result (all_are_on_their_types (meant_fragments fragments.now) (reached_members reach.now) ≡ true → possible.new ≡ possible.old) }
 {
     check_targets(schema, reach, faults)?;
-    if all_stand_on_their_types(fragments, reach) {
+    if all_are_on_their_types(fragments, reach) {
         return Ok(());
     }
     let mut types = found_or_new(*faults.allocator(), schema, possible.take())?;

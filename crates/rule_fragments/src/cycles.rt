@@ -52,7 +52,7 @@ fn tell_found(
     };
     match found {
         Found::Nothing => Ok(()),
-        Found::WayBack(path) => {
+        Found::Cycle(path) => {
             recursive_fragment_definition(fragment, references, root, path, faults)
         }
         Found::Deep => deeply_nested_fragment(fragment, faults),

@@ -7,7 +7,7 @@ ghost use Rattle.rule_document_definitions.specs.Subscriptions.{SubscriptionUses
 ghost use Rattle.rule_fragments.specs.Broken.{AddsBroken, AddsThese};
 ghost use Rattle.rule_fragments.specs.ListedBreaches.{introspection, conditional, at_root};
 ghost use Rattle.rule_selection_queries.specs.Lent.{lent, lent_all};
-ghost use Rattle.rule_fragments.specs.Thinned.{StandIn};
+ghost use Rattle.rule_fragments.specs.Thinned.{MayReplace};
 ghost use Rattle.rule_fragments.specs.Used.{AreUnderOwnNames};
 
 use crate::breach::Breach;
@@ -118,7 +118,7 @@ pub fn check_subscription(
     operation: &Node<Operation>,
     breaches: &mut Vec<Breach>,
 ) -> Result<(), AllocError>
-    ensures { OnOk result (AreUnderOwnNames (document_meant document.now) → StandIn false (document_meant document.now).fragments (document_meant thin.now).fragments → AddsBroken breaches.old breaches.new (SubscriptionBreaks (document_meant document.now) (operation_meant operation.now))) }
+    ensures { OnOk result (AreUnderOwnNames (document_meant document.now) → MayReplace false (document_meant document.now).fragments (document_meant thin.now).fragments → AddsBroken breaches.old breaches.new (SubscriptionBreaks (document_meant document.now) (operation_meant operation.now))) }
 {
     if !operation.content().is_subscription() {
         return Ok(());

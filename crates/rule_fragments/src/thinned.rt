@@ -8,7 +8,7 @@ ghost use Rattle.rule_selection_queries.specs.Lent.{lent};
 ghost use Rattle.rule_document_definitions.specs.Selected.{selection_directives};
 ghost use Rattle.rule_reach.specs.Reach.{meant_fragments};
 ghost use Rattle.rule_fragments.specs.Rooted.{fragment_set};
-ghost use Rattle.rule_fragments.specs.Thinned.{has_noted, is_quiet, are_quiet, Leaves, StillStandIn, StandIn};
+ghost use Rattle.rule_fragments.specs.Thinned.{has_noted, is_quiet, are_quiet, Leaves, StillMayReplace, MayReplace};
 
 use crate::names::is_meta_field_name;
 use document_typed_operations::{ExecutableDocument, Fragment, FragmentMap};
@@ -107,7 +107,7 @@ fn thin(
     name: &Name,
     instead: &mut FragmentMap,
 ) -> Result<(), AllocError>
-    ensures { OnOk result (StillStandIn deferred (meant_fragments fragments.now) (meant_fragments instead.old) (meant_fragments instead.new)) }
+    ensures { OnOk result (StillMayReplace deferred (meant_fragments fragments.now) (meant_fragments instead.old) (meant_fragments instead.new)) }
 {
     let Some(fragment) = fragments.get(name) else {
         return Ok(());
@@ -141,7 +141,7 @@ pub(crate) fn thinned_if_shared(
     deferred: bool,
     document: &ExecutableDocument,
 ) -> Result<Option<ExecutableDocument>, AllocError>
-    ensures { IfOk result (λ r. StandIn deferred (document_meant document.now).fragments (document_meant (unwrap_or r document.now)).fragments) }
+    ensures { IfOk result (λ r. MayReplace deferred (document_meant document.now).fragments (document_meant (unwrap_or r document.now)).fragments) }
 {
     if !are_several(deferred, document) {
         return Ok(None);

@@ -7,7 +7,7 @@ use Rattle.rule_field_groups.specs.in_spec_document.MeantTree.{MeantOperation, M
 use Rattle.rule_field_groups.specs.in_definitions.Judged.{Judged}
 use Rattle.rule_field_groups.proofs.in_definitions.Lists.{not_in_nil, only, is_only}
 use Rattle.rule_field_groups.specs.in_document_definitions.ReadFields.{ReadField, ReadSameKey, ReadSameShape, ReadBelow, ReadStarts, AreReadShapesStanding, fragments_read, set_read}
-use Rattle.rule_field_groups.specs.in_document_definitions.Settled.{StandIn, StandWhere, StartsStand, IsSettledIn}
+use Rattle.rule_field_groups.specs.in_document_definitions.Settled.{AreInOne, StandWhere, StartsStand, IsSettledIn}
 use Rattle.rule_field_groups.proofs.in_document_definitions.Unplaced.{contains_map, contains_unmap}
 use Rattle.rule_field_groups.specs.in_sets.in_reach.Broken.{brokens_of}
 use Rattle.rule_reach.specs.LoneKeys.{AreKeysLone}
@@ -21,10 +21,10 @@ use Rattle.rule_merging.specs.declared.operation.Examined.{Examined}
 
 module _ (lists : List (List ReadField)) (lone : List ReadField) where
   -- two fields that are in one of the lists still are; below, a field alone is in a list with itself
-  stand_kept : (f g : ReadField) → StandIn lists f g → StandIn (with_alone lists lone) f g
+  stand_kept : (f g : ReadField) → AreInOne lists f g → AreInOne (with_alone lists lone) f g
   stand_kept f g (list, (c, both)) = (list, (Contains-append_left lists (map (λ x. x ∷ []) lone) list c, both))
 
-  stand_one : (f g : ReadField) → AreOne lone f g → StandIn (with_alone lists lone) f g
+  stand_one : (f g : ReadField) → AreOne lone f g → AreInOne (with_alone lists lone) f g
   stand_one f g (same, c) = (
     f ∷ [],
     (
@@ -34,7 +34,7 @@ module _ (lists : List (List ReadField)) (lone : List ReadField) where
   )
 
   -- and nothing else
-  stand_cases : (f g : ReadField) → StandIn (with_alone lists lone) f g → StandIn lists f g ⊎ AreOne lone f g
+  stand_cases : (f g : ReadField) → AreInOne (with_alone lists lone) f g → AreInOne lists f g ⊎ AreOne lone f g
   stand_cases f g (list, (c, (a, b))) = elim (Contains-append_cases lists (map (λ x. x ∷ []) lone) list c) [
     | inl h ↦ inl (list, (h, (a, b)))
     | inr h ↦

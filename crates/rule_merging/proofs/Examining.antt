@@ -16,7 +16,7 @@ use Rattle.rule_field_groups.specs.in_document_definitions.Contents.{ContentBelo
 use Rattle.rule_field_groups.specs.in_document_definitions.Limits.{chain_bound}
 use Rattle.rule_field_groups.specs.in_document_definitions.PlainFields.{IsSelected}
 use Rattle.rule_field_groups.specs.in_document_definitions.ReadFields.{ReadField, ReadSet, list_read, field_read, fragments_read, ReadBelow, ReadStarts}
-use Rattle.rule_field_groups.specs.in_document_definitions.Settled.{StandIn, StartsStand, IsUnderWay}
+use Rattle.rule_field_groups.specs.in_document_definitions.Settled.{AreInOne, StartsStand, IsUnderWay}
 use Rattle.rule_field_groups.specs.in_document_definitions.Going.{IsEndOf, IsGoing}
 use Rattle.rule_field_groups.proofs.in_document_definitions.Equivalences.{shape_sym, shape_trans, selection_sym, selection_trans}
 use Rattle.rule_field_groups.proofs.in_document_definitions.Unplaced.{contains_map, contains_unmap}
@@ -109,7 +109,7 @@ nothing_settled pass s d kept e = subst (AreSettled d pass s) (sym e) (record {
   pairs = λ a b h. not_in_nil h.0 h.1.0;
 })
   where
-    none : {X : Type 0} (f g : ReadField) → StandIn [] f g → X
+    none : {X : Type 0} (f g : ReadField) → AreInOne [] f g → X
     none f g h = not_in_nil h.0 h.1.0
 
 -- ---- two sets in one list
@@ -239,7 +239,7 @@ module _ (pass : Pass) (s : Judged) (d : MeantDocument Place) where
   -- ---- what sets select
 
   -- what was in lists still is with more of them
-  pub stand_more : (old new : List (List ReadField)) → HasMore old new → (x y : ReadField) → StandIn old x y → StandIn new x y
+  pub stand_more : (old new : List (List ReadField)) → HasMore old new → (x y : ReadField) → AreInOne old x y → AreInOne new x y
   stand_more old new more x y h = (h.0, (more h.0 h.1.0, h.1.1))
 
   pub together_more : (old new : List (List ReadField)) → HasMore old new → (x y : ReadField) → StandTogether pass s old x y → StandTogether pass s new x y
@@ -248,7 +248,7 @@ module _ (pass : Pass) (s : Judged) (d : MeantDocument Place) where
   -- two fields that are in one of the new lists were in one of the old ones, or are fresh
   pub moved_lists : (o : MeantOperation Place) (Left Later : ReadField → ReadField → Type 0) (old new : List (List ReadField)) → HasMore old new
       → ((f g : ReadField) → Left f g → StandTogether pass s new f g ⊎ Later f g)
-      → ((f g : ReadField) → StandIn new f g → StandIn old f g ⊎ (ReadTogether pass s f g → ReadAgree pass s f g × ((x y : ReadField) → ReadBelow d f x → ReadBelow d g y → Later x y)))
+      → ((f g : ReadField) → AreInOne new f g → AreInOne old f g ⊎ (ReadTogether pass s f g → ReadAgree pass s f g × ((x y : ReadField) → ReadBelow d f x → ReadBelow d g y → Later x y)))
       → IsUnderWay (ReadBelow d) (ReadTogether pass s) (ReadAgree pass s) (ReadStarts d o) Left (StandTogether pass s old)
       → IsUnderWay (ReadBelow d) (ReadTogether pass s) (ReadAgree pass s) (ReadStarts d o) Later (StandTogether pass s new)
   moved_lists o Left Later old new keeps left fresh ok = record {
@@ -304,7 +304,7 @@ module _ (pass : Pass) (s : Judged) (d : MeantDocument Place) where
   -- ---- pairs that are done
 
   abbrev pub DoneIn : Kept → ReadSet → ReadSet → Type 0
-  DoneIn kept a b = IsPairDone (ReadOwn d) (ReadSpreads d) (ReadTogether pass s) (StandIn kept.lists) (AreLookedAt kept.looked) a b
+  DoneIn kept a b = IsPairDone (ReadOwn d) (ReadSpreads d) (ReadTogether pass s) (AreInOne kept.lists) (AreLookedAt kept.looked) a b
 
   pub looked_more : (old new : List (List ReadSet)) → HasMore old new → (a b : ReadSet) → AreLookedAt old a b → AreLookedAt new a b
   looked_more old new more a b h = (h.0, (more h.0 h.1.0, h.1.1))

@@ -19,7 +19,7 @@ use Rattle.rule_field_groups.specs.Under.{Sets, AreListsBelow}
 use Rattle.rule_field_groups.specs.declared.pass.Pass.{Pass}
 use Rattle.rule_field_groups.specs.declared.pass.Pass.TheVariants.{Shapes, Selections}
 use Rattle.rule_merging.specs.Examined.{ListExamined}
-use Rattle.rule_merging.specs.Twos.{IsListOfTwo, GoByNumbers, GoAllTogether}
+use Rattle.rule_merging.specs.Twos.{IsListOfTwo, GoTogetherByNumbers, GoAllTogether}
 
 -- ---- two fields, by their numbers
 
@@ -31,13 +31,13 @@ module _ (w : FieldSets) (are : AreSets w) (s : Judged) (schema : schema_in w �
   so_shared p has h = (member_shared w are p has).1 (subst (λ (j : Judged). IsAbstract j (field_of p).parent) (sym schema) h)
 
   module _ (p q : Member) (a : HasMember w p) (b : HasMember w q) where
-    pub together_so : (pass : Pass) → GoByNumbers pass p q → Together pass s (field_of p) (field_of q)
+    pub together_so : (pass : Pass) → GoTogetherByNumbers pass p q → Together pass s (field_of p) (field_of q)
     together_so Shapes (key, h) = (one_key w are p q a b).0 key
     together_so Selections (key, inl e) = ((one_key w are p q a b).0 key, inl ((one_parent w are p q a b).0 e))
     together_so Selections (key, inr (inl h)) = ((one_key w are p q a b).0 key, inr (inl (shared_so p a h)))
     together_so Selections (key, inr (inr h)) = ((one_key w are p q a b).0 key, inr (inr (shared_so q b h)))
 
-    pub so_together : (pass : Pass) → Together pass s (field_of p) (field_of q) → GoByNumbers pass p q
+    pub so_together : (pass : Pass) → Together pass s (field_of p) (field_of q) → GoTogetherByNumbers pass p q
     so_together Shapes key = ((one_key w are p q a b).1 key, tt)
     so_together Selections (key, inl e) = ((one_key w are p q a b).1 key, inl ((one_parent w are p q a b).1 e))
     so_together Selections (key, inr (inl h)) = ((one_key w are p q a b).1 key, inr (inl (so_shared p a h)))

@@ -12,6 +12,6 @@ pub mod Counting
 pub mod Written
 pub mod Operating
 pub mod Alone
-pub mod Behind
+pub mod After
 pub mod Verdicts
 pub mod Agreeing

@@ -14,7 +14,7 @@ use Rattle.rule_field_groups.specs.in_document_definitions.Selected.{StandingFie
 use Rattle.rule_field_groups.specs.in_document_definitions.Reached.{first as starts_here, next as leads_on}
 use Rattle.rule_field_groups.specs.in_document_definitions.ReadFields.{ReadField, ReadSet, fields_in, spreads_in, set_read, list_read, fragments_read, IsReadFrom, SelectsRead, ReadBelow, ReadStarts}
 use Rattle.rule_field_groups.specs.in_document_definitions.PlainFields.{IsSelected}
-use Rattle.rule_field_groups.specs.in_document_definitions.Settled.{StandIn, IsUnderWay}
+use Rattle.rule_field_groups.specs.in_document_definitions.Settled.{AreInOne, IsUnderWay}
 use Rattle.rule_field_groups.proofs.in_document_definitions.Unplaced.{contains_map, contains_unmap, under_same}
 use Rattle.list_interner.specs.NumberLists.{HaveSame}
 use Rattle.list_interner.proofs.Standing.{same_trans, same_sym}
@@ -138,13 +138,13 @@ module _ (pass : Pass) (s : Judged) (d : MeantDocument Place) where
 
     module _ (old mid new : Kept) (added : List (Broken Place)) (next : List Sets) (paired : FieldsPaired pass s d (are_of ones others) old mid added next)
         (looks : Looks (each_with vs b ++ with_each a ws) mid new) where
-      stand_own : added ≡ [] → (x y : ReadField) → ReadOwn d (list_read a) x → ReadOwn d (list_read b) y → ReadTogether pass s x y → StandIn new.lists x y
+      stand_own : added ≡ [] → (x y : ReadField) → ReadOwn d (list_read a) x → ReadOwn d (list_read b) y → ReadTogether pass s x y → AreInOne new.lists x y
       stand_own none x y p q t =
           let m = open_one.covers x p in
           let n = open_other.covers y q in
           let go : ReadTogether pass s (content_of m.0) (content_of n.0) = subst (λ v. ReadTogether pass s v (content_of n.0)) (sym m.1.1) (subst (ReadTogether pass s x) (sym n.1.1) t) in
           let stand = paired.stand none m.0 n.0 ((m.1.0, n.1.0), (together_read pass s (field_of m.0) (field_of n.0)).1 go) in
-          subst (λ (ls : List (List ReadField)). StandIn ls x y) (sym looks.lists) (subst (λ v. StandIn mid.lists v y) m.1.1 (subst (StandIn mid.lists (content_of m.0)) n.1.1 stand))
+          subst (λ (ls : List (List ReadField)). AreInOne ls x y) (sym looks.lists) (subst (λ v. AreInOne mid.lists v y) m.1.1 (subst (AreInOne mid.lists (content_of m.0)) n.1.1 stand))
 
       looked_one : (v : ReadSet) → ReadSpreads d (list_read a) v → AreLookedAt new.looked v (list_read b)
       looked_one v h =
@@ -349,7 +349,7 @@ module _ (pass : Pass) (s : Judged) (d : MeantDocument Place) where
   looked_stand : (kept : Kept) → PairsAreDone d pass s [] kept → (a b : ReadSet) → AreLookedAt kept.looked a b → (x y : ReadField) → SelectsRead (fragments_read d) a x → SelectsRead (fragments_read d) b y
       → StandTogether pass s kept.lists x y
   looked_stand kept done a b looked x y p q t =
-      let stands = pairs_stand (ReadOwn d) (ReadSpreads d) (ReadTogether pass s) (StandIn kept.lists) (AreLookedAt kept.looked) (AreLookedAt []) done a b x y looked
+      let stands = pairs_stand (ReadOwn d) (ReadSpreads d) (ReadTogether pass s) (AreInOne kept.lists) (AreLookedAt kept.looked) (AreLookedAt []) done a b x y looked
       (selected_through d a x p) (selected_through d b y q) t in
       elim stands [ inl stand ↦ stand | inr (u, (v, (none, both))) ↦ not_in_nil none.0 none.1.0 ]
 

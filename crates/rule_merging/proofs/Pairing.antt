@@ -20,7 +20,7 @@ use Rattle.rule_field_groups.specs.Passes.{Together}
 use Rattle.rule_field_groups.proofs.Lists.{taken_more}
 use Rattle.list_interner.specs.NumberLists.{HaveSame}
 use Rattle.rule_field_groups.specs.in_document_definitions.ReadFields.{ReadField, ReadSet}
-use Rattle.rule_field_groups.specs.in_document_definitions.Settled.{StandIn}
+use Rattle.rule_field_groups.specs.in_document_definitions.Settled.{AreInOne}
 use Rattle.rule_field_groups.specs.MergeState.{Kept, Remembers}
 use Rattle.rule_merging.specs.Examined.{Sets, Breaches, all_read, IsFresh, ListExamined}
 use Rattle.rule_merging.specs.Twos.{TwoFields, are_two, IsListOf, IsListOfTwo, both_of, GoTogether, FieldsPaired}
@@ -45,7 +45,7 @@ module _ (pass : Pass) (s : Judged) (d : MeantDocument Place) where
 
   -- where all are in lists that were examined before
   abbrev pub AllStand : TwoFields → Kept → Type 0
-  AllStand Wanted old = (p q : Member) → GoTogether pass s d Wanted p q → StandIn old.lists (content_of p) (content_of q)
+  AllStand Wanted old = (p q : Member) → GoTogether pass s d Wanted p q → AreInOne old.lists (content_of p) (content_of q)
 
   paired_standing : (Wanted : TwoFields) (old : Kept) → AllStand Wanted old → FieldsPaired pass s d Wanted old old [] []
   paired_standing Wanted old all = record {
@@ -161,8 +161,8 @@ module _ (pass : Pass) (s : Judged) (d : MeantDocument Place) where
     no_more list (inl (e, is)) f c = Contains-first (field_of one) (field_of other ∷ []) f (sym (only (field_of one) f (subst (λ (l : List Member). Contains (fields_of l) f) is c)))
     no_more list (inr (e, is)) f c = subst (λ (l : List Member). Contains (fields_of l) f) is c
 
-    these : (lists : List (List ReadField)) → StandIn lists (content_of one) (content_of other) → (p q : Member) → GoTogether pass s d (are_two one other) p q → StandIn lists (content_of p) (content_of q)
-    these lists stand p q ((is, is_too), t) = subst (λ (x : Member). StandIn lists (content_of x) (content_of q)) (sym is) (subst (λ (y : Member). StandIn lists (content_of one) (content_of y)) (sym is_too) stand)
+    these : (lists : List (List ReadField)) → AreInOne lists (content_of one) (content_of other) → (p q : Member) → GoTogether pass s d (are_two one other) p q → AreInOne lists (content_of p) (content_of q)
+    these lists stand p q ((is, is_too), t) = subst (λ (x : Member). AreInOne lists (content_of x) (content_of q)) (sym is) (subst (λ (y : Member). AreInOne lists (content_of one) (content_of y)) (sym is_too) stand)
 
     -- that were compared before
     pub paired_known : (list : List Member) → IsListOf one other list → (old new : Kept) (told : List (Broken Place)) (next : List Sets)
@@ -188,7 +188,7 @@ module _ (pass : Pass) (s : Judged) (d : MeantDocument Place) where
       ),
     )
       where
-        stood : (contents_of list ≡ []) ⊎ ((known : List ReadField) × (Contains old.lists known × HaveSame known (contents_of list))) → StandIn old.lists (content_of one) (content_of other)
+        stood : (contents_of list ≡ []) ⊎ ((known : List ReadField) × (Contains old.lists known × HaveSame known (contents_of list))) → AreInOne old.lists (content_of one) (content_of other)
         stood (inl none) = not_in_nil (content_of one) (subst (λ l. Contains l (content_of one)) none (has_one list two))
         stood (inr (known, (there, same))) = (known, (there, ((same (content_of one)).1 (has_one list two), (same (content_of other)).1 (has_other list two))))
 

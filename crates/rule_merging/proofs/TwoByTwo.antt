@@ -9,7 +9,7 @@ use Rattle.rule_field_groups.specs.in_document_definitions.DocumentFaults.{Broke
 use Rattle.rule_field_groups.specs.in_document_definitions.Selected.{StandingField}
 use Rattle.rule_field_groups.specs.in_document_definitions.ReadFields.{ReadField, ReadSet, field_read}
 use Rattle.rule_field_groups.specs.in_document_definitions.PlainFields.{IsSelected}
-use Rattle.rule_field_groups.specs.in_document_definitions.Settled.{StandIn}
+use Rattle.rule_field_groups.specs.in_document_definitions.Settled.{AreInOne}
 use Rattle.rule_field_groups.proofs.in_document_definitions.Unplaced.{contains_map, contains_unmap}
 use Rattle.rule_field_groups.specs.in_sets.declared.member.Member.{Member}
 use Rattle.rule_field_groups.specs.declared.pass.Pass.{Pass}
@@ -54,7 +54,7 @@ module _ (pass : Pass) (s : Judged) (d : MeantDocument Place) (sets : Sets) (lis
         let q = read_of y b in
         let go : ReadTogether pass s (content_of p.0) (content_of q.0) = subst (λ v. ReadTogether pass s v (content_of q.0)) (sym p.1.1) (subst (ReadTogether pass s x) (sym q.1.1) t) in
         let here = paired.stand none p.0 q.0 ((p.1.0, q.1.0), (together_read pass s (field_of p.0) (field_of q.0)).1 go) in
-        subst (λ v. StandIn new.lists v y) p.1.1 (subst (StandIn new.lists (content_of p.0)) q.1.1 here)
+        subst (λ v. AreInOne new.lists v y) p.1.1 (subst (AreInOne new.lists (content_of p.0)) q.1.1 here)
 
     settled : added ≡ [] → (o : MeantOperation Place) (left : List (List ReadSet)) → AreUnderWay d pass s o [] (read_sets sets ∷ left) old → AreUnderWay d pass s o [] (left ++ all_read next) new
     settled none o left under = record {

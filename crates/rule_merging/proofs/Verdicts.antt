@@ -23,7 +23,7 @@ use Rattle.graphql_faults.specs.DetailsTree.{of_document, Telling}
 use Rattle.rule_merging.specs.Merged.{MergingFailsAt, AreSettledIf, limit_told, conflicts_told}
 use Rattle.rule_merging.specs.Merger.{AreClosed, with_alone}
 use Rattle.rule_merging.proofs.Alone.{closed_with_alone}
-use Rattle.rule_merging.proofs.Behind.{breaches_told, nothing_told, told_nothing}
+use Rattle.rule_merging.proofs.After.{breaches_told, nothing_told, told_nothing}
 
 -- ---- what is told, as one list
 

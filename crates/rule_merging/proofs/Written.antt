@@ -41,17 +41,17 @@ module _ (d : MeantDocument Place) where
     last_reached [] First begins f (h, k) = begins f h
     last_reached (g ∷ c) First begins f (h, k) = last_reached c (Below d g) (λ e b. below_reached g e (begins g h) b) f k
 
-    stands_in : Contains (operations d) o → (x : Standing Place) → StandsThere d o x → Contains (all_selections d) x
-    stands_in there x (inl c) =
+    lies_in : Contains (operations d) o → (x : Standing Place) → StandsThere d o x → Contains (all_selections d) x
+    lies_in there x (inl c) =
         Contains-append_left (flat_map (λ (p : MeantOperation Place). all_in (InOperation (operation_name p)) p.set) (operations d)) (flat_map (body d) (fragments d)) x
         (given_in (λ (p : MeantOperation Place). all_in (InOperation (operation_name p)) p.set) x (operations d) o there c)
-    stands_in there x (inr (n, (led, (f, (e, c))))) =
+    lies_in there x (inr (n, (led, (f, (e, c))))) =
         Contains-append_right (flat_map (λ (p : MeantOperation Place). all_in (InOperation (operation_name p)) p.set) (operations d)) (flat_map (body d) (fragments d)) x
         (given_in (body d) x (fragments d) f (contains_map (λ (e : List ℕ × MeantFragment Place). e.1) d.fragments (n, f) (under_given n d.fragments f e)) c)
 
   pub last_written : (x : ReadField) → IsLast d (operations d) x → Contains (fields_written d) x
   last_written x (o, (c, (f, (there, (chain, same))))) =
       let y = last_reached o c (Starts d o) (starts_reached o) f chain in
-      let stands_there : Contains (all_selections d) y.0 = stands_in o there y.0 (stands d o y.0 y.1.0) in
+      let stands_there : Contains (all_selections d) y.0 = lies_in o there y.0 (stands d o y.0 y.1.0) in
       let is : written y.0 ≡ field_read f ∷ [] = ap (λ (g : Option (StandingField Place)). cons_option (option_map field_read g) []) y.1.1 in
       given_in written x (all_selections d) y.0 stands_there (subst (λ l. Contains l x) (sym is) (Contains-first (field_read f) [] x same))

@@ -17,7 +17,7 @@ use Rattle.rule_field_groups.specs.Members.{fields_of}
 use Rattle.rule_field_groups.specs.in_sets.declared.member.Member.{Member}
 use Rattle.rule_field_groups.specs.in_document_definitions.ReadFields.{ReadField, ReadSet, list_read, fields_in, spreads_in, fragments_read, SelectsRead, ReadBelow, ReadStarts}
 use Rattle.rule_field_groups.specs.in_document_definitions.PlainFields.{IsSelected}
-use Rattle.rule_field_groups.specs.in_document_definitions.Settled.{StandIn, StandWhere, StartsStand, IsSettledIn, IsUnderWay}
+use Rattle.rule_field_groups.specs.in_document_definitions.Settled.{AreInOne, StandWhere, StartsStand, IsSettledIn, IsUnderWay}
 use Rattle.rule_merging.specs.Paired.{ArePairsDone}
 use Rattle.rule_field_groups.specs.LaterField.{BreaksAtLater}
 use Rattle.rule_field_groups.specs.Passes.{Together, Agree, Conflict, ReadTogether, ReadAgree}
@@ -90,7 +90,7 @@ module _ (d : MeantDocument Place) where
   -- each pair that was looked at is one of those that are left, or its own fields that go together are in one of the lists, and what one of
   -- the two spreads was looked at with the other
   abbrev pub PairsAreDone : Pass → Judged → List (List ReadSet) → Kept → Type 0
-  PairsAreDone pass s twos kept = ArePairsDone ReadOwn ReadSpreads (ReadTogether pass s) (StandIn kept.lists) (AreLookedAt kept.looked) (AreLookedAt twos)
+  PairsAreDone pass s twos kept = ArePairsDone ReadOwn ReadSpreads (ReadTogether pass s) (AreInOne kept.lists) (AreLookedAt kept.looked) (AreLookedAt twos)
 
   -- fields of the lists that go together are settled, what the expanded sets select is in the lists, and all pairs are done
   pub record AreSettled (pass : Pass) (s : Judged) (kept : Kept) : Type 0 where

@@ -7,7 +7,7 @@ use Rattle.rule_field_groups.specs.in_definitions.Judged.{Judged}
 use Rattle.rule_field_groups.specs.in_document_definitions.DocumentFaults.{Broken}
 use Rattle.rule_field_groups.specs.in_document_definitions.Selected.{StandingField}
 use Rattle.rule_field_groups.specs.in_document_definitions.ReadFields.{ReadField}
-use Rattle.rule_field_groups.specs.in_document_definitions.Settled.{StandIn}
+use Rattle.rule_field_groups.specs.in_document_definitions.Settled.{AreInOne}
 use Rattle.rule_field_groups.specs.in_sets.in_reach.Broken.{brokens_of}
 use Rattle.rule_field_groups.specs.Members.{field_of, fields_of, content_of}
 use Rattle.rule_field_groups.specs.in_sets.declared.member.Member.{Member}
@@ -50,8 +50,8 @@ IsAsked Shapes p q = Unit {0}
 IsAsked Selections p q = HaveOneObject p q
 
 -- the two fields go together, by their numbers
-abbrev pub GoByNumbers : Pass → Member → Member → Type 0
-GoByNumbers pass p q = (p.key ≡ q.key) × IsAsked pass p q
+abbrev pub GoTogetherByNumbers : Pass → Member → Member → Type 0
+GoTogetherByNumbers pass p q = (p.key ≡ q.key) × IsAsked pass p q
 
 -- their numbers show that they agree: those of their types, or else those of their names and arguments
 abbrev pub AgreeByNumbers : Pass → Member → Member → Type 0
@@ -95,7 +95,7 @@ module _ (pass : Pass) (s : Judged) (d : MeantDocument Place) where
     pub same : new ≡ record old { lists = new.lists }
     pub more : (list : List ReadField) → Contains old.lists list → Contains new.lists list
     -- if nothing is told
-    pub stand : added ≡ [] → (p q : Member) → GoTogether Wanted p q → StandIn new.lists (content_of p) (content_of q)
+    pub stand : added ≡ [] → (p q : Member) → GoTogether Wanted p q → AreInOne new.lists (content_of p) (content_of q)
     pub fresh : added ≡ [] → (list : List ReadField) → Contains new.lists list → Contains old.lists list ⊎ IsFresh pass s d (all_read next) list
 
 abbrev pub PairsFields : Examination → TwoFields → Kept → Kept → Breaches → Breaches → List Sets → List Sets → Type 0

@@ -5,7 +5,7 @@ ghost use Rattle.rule_field_groups.specs.in_sets.Read.{set_at};
 ghost use Rattle.rule_field_groups.specs.Members.{fields_of, meant_sets, AreMembersOf};
 ghost use Rattle.rule_field_groups.specs.Passes.{AddsGroup};
 ghost use Rattle.rule_field_groups.specs.MergeState.{two_of};
-ghost use Rattle.rule_merging.specs.Twos.{HaveOneObject, GoByNumbers, GoAllTogether, AgreeByNumbers, AllAgreeByNumbers, are_two, are_of, GrowsByTwo};
+ghost use Rattle.rule_merging.specs.Twos.{HaveOneObject, GoTogetherByNumbers, GoAllTogether, AgreeByNumbers, AllAgreeByNumbers, are_two, are_of, GrowsByTwo};
 ghost use Rattle.rule_field_groups.specs.Compared.{compared};
 ghost use Rattle.rule_field_groups.specs.Under.{sets_in};
 ghost use Rattle.rule_merging.specs.Examined.{schema_of, sets_of, HasSets, ExaminesList, ExaminesPair, ExaminesPairs, ExaminesTwos, GrowsOver, GrowsOverTwo, GrowsHere};
@@ -27,7 +27,7 @@ fn may_share(one: &Member<'_>, other: &Member<'_>) -> bool
 
 /// Whether two fields go together: they have one response key, and, if shapes are not compared, one object may have both.
 fn go_together(pass: Pass, one: &Member<'_>, other: &Member<'_>) -> bool
-    ensures { IsTrue result ↔ GoByNumbers pass one.now other.now }
+    ensures { IsTrue result ↔ GoTogetherByNumbers pass one.now other.now }
 {
     if one.key != other.key {
         return false;

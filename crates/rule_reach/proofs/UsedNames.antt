@@ -11,7 +11,7 @@ use Rattle.tree_operations.specs.DirectiveTree.{Arguments, Directives}
 use Rattle.rule_definitions.specs.Words.{AtSomeIndex}
 use Rattle.rule_definitions.proofs.Lists.{not_in_nil, Contains-cons, Contains-first}
 use Rattle.rule_document_definitions.specs.in_spec_document.MeantTree.{MeantSelection, MeantField, MeantSpread, MeantInline}
-use Rattle.rule_document_definitions.specs.UsedVariables.{StandsInValue, StandsInItems, StandsInEntries, StandsInArguments, StandsInDirectives}
+use Rattle.rule_document_definitions.specs.UsedVariables.{IsInValue, IsInItems, IsInEntries, IsInArguments, IsInDirectives}
 use Rattle.rule_reach.specs.UsedNames.{with_value, with_items, with_entries, with_arguments, with_directives, with_selection}
 
 -- ---- one name more
@@ -71,7 +71,7 @@ module _ (n : List ℕ) where
   -- ---- values
 
   mutual
-    in_value : (ns : List (List ℕ)) (v : ValueTree Place) → Contains (with_value ns v) n ↔ (Contains ns n ⊎ StandsInValue n v)
+    in_value : (ns : List (List ℕ)) (v : ValueTree Place) → Contains (with_value ns v) n ↔ (Contains ns n ⊎ IsInValue n v)
     in_value ns (VariableTree v) = in_name n ns v.it
     in_value ns (ListTree ts) = in_items ns ts
     in_value ns (ObjectTree es) = in_entries ns es
@@ -82,29 +82,29 @@ module _ (n : List ℕ) where
     in_value ns (IntTree s) = in_none
     in_value ns (BooleanTree b) = in_none
 
-    in_items : (ns : List (List ℕ)) (ts : ItemTrees Place) → Contains (with_items ns ts) n ↔ (Contains ns n ⊎ StandsInItems n ts)
+    in_items : (ns : List (List ℕ)) (ts : ItemTrees Place) → Contains (with_items ns ts) n ↔ (Contains ns n ⊎ IsInItems n ts)
     in_items ns no_items = in_none
     in_items ns (item_then p v ts) = in_both (in_items (with_value ns v) ts) (in_value ns v)
 
-    in_entries : (ns : List (List ℕ)) (es : EntryTrees Place) → Contains (with_entries ns es) n ↔ (Contains ns n ⊎ StandsInEntries n es)
+    in_entries : (ns : List (List ℕ)) (es : EntryTrees Place) → Contains (with_entries ns es) n ↔ (Contains ns n ⊎ IsInEntries n es)
     in_entries ns no_entries = in_none
     in_entries ns (entry_then k p v es) = in_both (in_entries (with_value ns v) es) (in_value ns v)
 
   -- ---- what is given
 
-  in_arguments : (ns : List (List ℕ)) (given : Arguments Place) → Contains (with_arguments ns given) n ↔ (Contains ns n ⊎ StandsInArguments n given)
-  in_arguments ns given = in_fold (λ ms a. with_value ms a.it.value.it) (λ a. StandsInValue n a.it.value.it) n (λ ms a. in_value ms a.it.value.it) ns given
+  in_arguments : (ns : List (List ℕ)) (given : Arguments Place) → Contains (with_arguments ns given) n ↔ (Contains ns n ⊎ IsInArguments n given)
+  in_arguments ns given = in_fold (λ ms a. with_value ms a.it.value.it) (λ a. IsInValue n a.it.value.it) n (λ ms a. in_value ms a.it.value.it) ns given
 
-  pub in_directives : (ns : List (List ℕ)) (ds : Directives Place) → Contains (with_directives ns ds) n ↔ (Contains ns n ⊎ StandsInDirectives n ds)
-  in_directives ns ds = in_fold (λ ms d. with_arguments ms d.it.arguments) (λ d. StandsInArguments n d.it.arguments) n (λ ms d. in_arguments ms d.it.arguments) ns ds
+  pub in_directives : (ns : List (List ℕ)) (ds : Directives Place) → Contains (with_directives ns ds) n ↔ (Contains ns n ⊎ IsInDirectives n ds)
+  in_directives ns ds = in_fold (λ ms d. with_arguments ms d.it.arguments) (λ d. IsInArguments n d.it.arguments) n (λ ms d. in_arguments ms d.it.arguments) ns ds
 
   -- ---- selections
 
   -- it is in a selection itself, wherever the selection is
   abbrev pub StandsHere : MeantSelection Place → Type 0
-  StandsHere (MeantField p d h s) = StandsInArguments n h.arguments ⊎ StandsInDirectives n h.directives
-  StandsHere (MeantSpread p m ds) = StandsInDirectives n ds
-  StandsHere (MeantInline p c ds s) = StandsInDirectives n ds
+  StandsHere (MeantField p d h s) = IsInArguments n h.arguments ⊎ IsInDirectives n h.directives
+  StandsHere (MeantSpread p m ds) = IsInDirectives n ds
+  StandsHere (MeantInline p c ds s) = IsInDirectives n ds
 
   pub in_selection : (ns : List (List ℕ)) (x : MeantSelection Place) → Contains (with_selection ns x) n ↔ (Contains ns n ⊎ StandsHere x)
   in_selection ns (MeantField p d h s) = in_both (in_directives (with_arguments ns h.arguments) h.directives) (in_arguments ns h.arguments)

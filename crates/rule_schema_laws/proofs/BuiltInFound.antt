@@ -9,9 +9,9 @@ use Rattle.schema_built_in.specs.Table.{built_in_definitions}
 use Rattle.rule_schema_laws.specs.BuiltInText.{built_in_text}
 use Rattle.rule_schema_laws.specs.BuiltInTextReads.{TextReads}
 use Rattle.rule_schema_laws.proofs.BuiltInPieces.{pieces, pieces_are}
-use Rattle.rule_schema_laws.proofs.BuiltInParsing.{Answer, trees, behind, is_read, tokens, answer, answer_read, same_trees}
+use Rattle.rule_schema_laws.proofs.BuiltInParsing.{Answer, trees, following, is_read, tokens, answer, answer_read, same_trees}
 
-read_as : (a : Answer) → is_read a ≡ true → a ≡ Ok (trees a, behind a)
+read_as : (a : Answer) → is_read a ≡ true → a ≡ Ok (trees a, following a)
 read_as (Ok p) e = refl
 read_as (Err f) e = absurd cc
 
@@ -21,12 +21,12 @@ lexed = record { pieces = pieces; are = pieces_are; found = refl }
 pub text_reads : (file : FileId) → TextReads file
 unfolding built_in_definitions
 text_reads file =
-    let found : answer file ≡ Ok (trees (answer file), behind (answer file)) = read_as (answer file) (answer_read file) in
+    let found : answer file ≡ Ok (trees (answer file), following (answer file)) = read_as (answer file) (answer_read file) in
     record {
       tokens = tokens;
       tree = trees (answer file);
       lexed = lexed;
-      derived = document_found (in_file file) 2 (start tokens) refl (trees (answer file)) (behind (answer file)) found;
-      within = document_within (in_file file) 2 (start tokens) refl (trees (answer file)) (behind (answer file)) found;
+      derived = document_found (in_file file) 2 (start tokens) refl (trees (answer file)) (following (answer file)) found;
+      within = document_within (in_file file) 2 (start tokens) refl (trees (answer file)) (following (answer file)) found;
       same = same_trees file;
     }

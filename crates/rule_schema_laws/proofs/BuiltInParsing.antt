@@ -29,9 +29,9 @@ abbrev pub trees : Answer → List (DefinitionTree Place)
 trees (Ok p) = p.0
 trees (Err e) = []
 
-abbrev pub behind : Answer → Input
-behind (Ok p) = p.1
-behind (Err e) = e.1
+abbrev pub following : Answer → Input
+following (Ok p) = p.1
+following (Err e) = e.1
 
 abbrev pub is_read : Answer → Bool
 is_read (Ok p) = true

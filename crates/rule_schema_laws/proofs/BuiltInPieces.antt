@@ -9,59 +9,59 @@ use Rattle.rule_schema_laws.proofs.BuiltInCutting.{cut, cut_are, join}
 
 -- the pieces of a text are those that stand before any other bytes
 abbrev pub AreBefore : ℕ → List ℕ → Type 0
-AreBefore n text = (behind : List ℕ) → ArePieces (cut n text) (text ++ behind) behind
+AreBefore n text = (following : List ℕ) → ArePieces (cut n text) (text ++ following) following
 
 pub skip_are : AreBefore 24 skip_text
 unfolding piece_at ignored_at token_at run_len string_at quoted_len part_len
-skip_are behind = cut_are 24 (skip_text ++ behind)
+skip_are following = cut_are 24 (skip_text ++ following)
 
 pub include_are : AreBefore 24 include_text
 unfolding piece_at ignored_at token_at run_len string_at quoted_len part_len
-include_are behind = cut_are 24 (include_text ++ behind)
+include_are following = cut_are 24 (include_text ++ following)
 
 pub deprecated_are : AreBefore 31 deprecated_text
 unfolding piece_at ignored_at token_at run_len string_at quoted_len part_len
-deprecated_are behind = cut_are 31 (deprecated_text ++ behind)
+deprecated_are following = cut_are 31 (deprecated_text ++ following)
 
 pub specified_by_are : AreBefore 16 specified_by_text
 unfolding piece_at ignored_at token_at run_len string_at quoted_len part_len
-specified_by_are behind = cut_are 16 (specified_by_text ++ behind)
+specified_by_are following = cut_are 16 (specified_by_text ++ following)
 
 pub scalars_are : AreBefore 20 scalars_text
 unfolding piece_at ignored_at token_at run_len string_at quoted_len part_len
-scalars_are behind = cut_are 20 (scalars_text ++ behind)
+scalars_are following = cut_are 20 (scalars_text ++ following)
 
 pub schema_are : AreBefore 47 schema_text
 unfolding piece_at ignored_at token_at run_len string_at quoted_len part_len
-schema_are behind = cut_are 47 (schema_text ++ behind)
+schema_are following = cut_are 47 (schema_text ++ following)
 
 pub type_are : AreBefore 104 type_text
 unfolding piece_at ignored_at token_at run_len string_at quoted_len part_len
-type_are behind = cut_are 104 (type_text ++ behind)
+type_are following = cut_are 104 (type_text ++ following)
 
 pub type_kind_are : AreBefore 24 type_kind_text
 unfolding piece_at ignored_at token_at run_len string_at quoted_len part_len
-type_kind_are behind = cut_are 24 (type_kind_text ++ behind)
+type_kind_are following = cut_are 24 (type_kind_text ++ following)
 
 pub field_are : AreBefore 55 field_text
 unfolding piece_at ignored_at token_at run_len string_at quoted_len part_len
-field_are behind = cut_are 55 (field_text ++ behind)
+field_are following = cut_are 55 (field_text ++ following)
 
 pub input_value_are : AreBefore 41 input_value_text
 unfolding piece_at ignored_at token_at run_len string_at quoted_len part_len
-input_value_are behind = cut_are 41 (input_value_text ++ behind)
+input_value_are following = cut_are 41 (input_value_text ++ following)
 
 pub enum_value_are : AreBefore 30 enum_value_text
 unfolding piece_at ignored_at token_at run_len string_at quoted_len part_len
-enum_value_are behind = cut_are 30 (enum_value_text ++ behind)
+enum_value_are following = cut_are 30 (enum_value_text ++ following)
 
 pub directive_are : AreBefore 53 directive_text
 unfolding piece_at ignored_at token_at run_len string_at quoted_len part_len
-directive_are behind = cut_are 53 (directive_text ++ behind)
+directive_are following = cut_are 53 (directive_text ++ following)
 
 pub directive_location_are : AreBefore 48 directive_location_text
 unfolding piece_at ignored_at token_at run_len string_at quoted_len part_len
-directive_location_are behind = cut_are 48 (directive_location_text ++ behind)
+directive_location_are following = cut_are 48 (directive_location_text ++ following)
 
 -- a part of the text, and the count of its pieces
 pub record Part : Type 0 where

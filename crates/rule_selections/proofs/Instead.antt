@@ -20,7 +20,7 @@ use Rattle.rule_document_definitions.specs.PlacedDocumentFaults.{place_or_built_
 use Rattle.rule_reach.specs.Reach.{Member, field_of}
 use Rattle.rule_selections.specs.SelectionFaults.{MissesSubselection, ArgumentsOfBreak, SelectionBreaks}
 use Rattle.rule_selections.specs.Typed.{ReachesTyped}
-use Rattle.rule_selections.specs.Settled.{Terms, AreDefinedIn, filler, filled, emptied, EntersOnly, AppliesIn, IsQuiet, IsSettled, Thins, StandsInFor, StandIn}
+use Rattle.rule_selections.specs.Settled.{Terms, AreDefinedIn, filler, filled, emptied, EntersOnly, AppliesIn, IsQuiet, IsSettled, Thins, IsReplacementOf, MayReplace}
 use Rattle.rule_selections.proofs.Elsewhere.{member, at, to_members, of_members, Look, look, outline, outline_of, bare, placed}
 use Rattle.rule_selections.proofs.Leaving.{IsFiller, StaysAs, stays_same, set_left_of, set_stays_in, filled_of, stays_filled, look_stays, stays_typed, filler_typed, settled_quiet, set_settled}
 use Rattle.rule_selections.proofs.SameUses.{same_uses}
@@ -39,20 +39,20 @@ module _ (R : List ℕ → List ℕ → Type 0) where
   its_condition (t, MeantInline p None ds v) enters c is = absurd (true≢false (sym (ap is_some is)))
   its_condition (t, MeantInline p (Some k) ds v) enters c is = subst (R t) (some_is k.it c is) enters
 
-module _ (s : Terms) (d : MeantDocument Place) (instead : Entries (MeantFragment Place)) (in' : StandIn s d.fragments instead) where
+module _ (s : Terms) (d : MeantDocument Place) (instead : Entries (MeantFragment Place)) (in' : MayReplace s d.fragments instead) where
   -- the document with the others
   abbrev pub Other : MeantDocument Place
   Other = record { anonymous = d.anonymous; named = d.named; fragments = instead }
 
   -- what is under a name there replaces what is under it in the document
-  pub stood_for : (n : List ℕ) (h : MeantFragment Place) → under n instead ≡ Some h → (g : MeantFragment Place) × ((under n d.fragments ≡ Some g) × StandsInFor s h g)
+  pub stood_for : (n : List ℕ) (h : MeantFragment Place) → under n instead ≡ Some h → (g : MeantFragment Place) × ((under n d.fragments ≡ Some g) × IsReplacementOf s h g)
   stood_for n h is = by (under n d.fragments) refl
     where
-      by : (o : Option (MeantFragment Place)) → under n d.fragments ≡ o → (g : MeantFragment Place) × ((under n d.fragments ≡ Some g) × StandsInFor s h g)
+      by : (o : Option (MeantFragment Place)) → under n d.fragments ≡ o → (g : MeantFragment Place) × ((under n d.fragments ≡ Some g) × IsReplacementOf s h g)
       by None e = absurd (true≢false (sym (ap is_some (sym (in'.absent n e) ∙ is))))
       by (Some g) e =
           let i = in'.there n g e in
-          (g, (e, subst (λ x. StandsInFor s x g) (some_is i.0 h (sym i.1.0 ∙ is)) i.1.1))
+          (g, (e, subst (λ x. IsReplacementOf s x g) (some_is i.0 h (sym i.1.0 ∙ is)) i.1.1))
 
   -- ---- what a selection leads to
 

@@ -14,7 +14,7 @@ use Rattle.rule_definitions.proofs.Listing.{mapped_more}
 use Rattle.rule_definitions.proofs.Lists.{not_in_nil, Contains-cons}
 use Rattle.rule_reach.specs.UsedNames.{with_selection}
 use Rattle.rule_reach.proofs.UsedNames.{StandsHere, in_both, in_none, in_selection}
-use Rattle.rule_selections.specs.Settled.{StandsWithin, StandsInSet, StandsAlong, UsesAll}
+use Rattle.rule_selections.specs.Settled.{UsesWithin, UsesInSet, UsesAlong, UsesAll}
 use Rattle.rule_selections.specs.UsedNames.{with_along, with_set, with_sets}
 use Rattle.rule_selections.specs.Within.{within, within_one, within_all}
 
@@ -26,18 +26,18 @@ module _ (n : List ℕ) where
   StandsThere no_typed = ⊥
   StandsThere (typed_then x xs) = StandsHere n (meant x) ⊎ StandsThere xs
 
-  abbrev StandsAt : TypedSet Place → Type 0
-  StandsAt (typed_set t ss) = StandsThere ss
+  abbrev IsTokenAt : TypedSet Place → Type 0
+  IsTokenAt (typed_set t ss) = StandsThere ss
 
   abbrev StandsAmong : List (TypedSet Place) → Type 0
   StandsAmong [] = ⊥
-  StandsAmong (v ∷ vs) = StandsAt v ⊎ StandsAmong vs
+  StandsAmong (v ∷ vs) = IsTokenAt v ⊎ StandsAmong vs
 
   in_along : (ns : List (List ℕ)) (ss : TypedSelections Place) → Contains (with_along ns ss) n ↔ (Contains ns n ⊎ StandsThere ss)
   in_along ns no_typed = in_none
   in_along ns (typed_then x xs) = in_both (in_along (with_selection ns (meant x)) xs) (in_selection n ns (meant x))
 
-  in_set : (ns : List (List ℕ)) (v : TypedSet Place) → Contains (with_set ns v) n ↔ (Contains ns n ⊎ StandsAt v)
+  in_set : (ns : List (List ℕ)) (v : TypedSet Place) → Contains (with_set ns v) n ↔ (Contains ns n ⊎ IsTokenAt v)
   in_set ns (typed_set t ss) = in_along ns ss
 
   in_sets : (ns : List (List ℕ)) (vs : List (TypedSet Place)) → Contains (with_sets ns vs) n ↔ (Contains ns n ⊎ StandsAmong vs)
@@ -60,15 +60,15 @@ module _ (n : List ℕ) where
 
   -- what is in a set at any depth is in the own selections of the set or of one within it, and conversely
   mutual
-    into_set : (v : TypedSet Place) → StandsInSet n (meant_of_set v) → StandsAmong (within v)
+    into_set : (v : TypedSet Place) → UsesInSet n (meant_of_set v) → StandsAmong (within v)
     into_set (typed_set t ss) h = elim (into_all ss h) [ inl k ↦ inl k | inr k ↦ inr k ]
 
-    into_all : (ss : TypedSelections Place) → StandsAlong n (meant_of_all ss) → StandsThere ss ⊎ StandsAmong (within_all ss)
+    into_all : (ss : TypedSelections Place) → UsesAlong n (meant_of_all ss) → StandsThere ss ⊎ StandsAmong (within_all ss)
     into_all no_typed h = absurd h
     into_all (typed_then x xs) (inl h) = elim (into_one x h) [ inl k ↦ inl (inl k) | inr k ↦ inr (among_left (within_one x) (within_all xs) k) ]
     into_all (typed_then x xs) (inr h) = elim (into_all xs h) [ inl k ↦ inl (inr k) | inr k ↦ inr (among_right (within_one x) (within_all xs) k) ]
 
-    into_one : (x : TypedSelection Place) → StandsWithin n (meant x) → StandsHere n (meant x) ⊎ StandsAmong (within_one x)
+    into_one : (x : TypedSelection Place) → UsesWithin n (meant x) → StandsHere n (meant x) ⊎ StandsAmong (within_one x)
     into_one (TypedField p d h v) (inl (inl u)) = inl (inr u)
     into_one (TypedField p d h v) (inl (inr u)) = inl (inl u)
     into_one (TypedField p d h v) (inr u) = inr (into_set v u)
@@ -77,31 +77,31 @@ module _ (n : List ℕ) where
     into_one (TypedInline p c ds v) (inr u) = inr (into_set v u)
 
   mutual
-    of_set : (v : TypedSet Place) → StandsAmong (within v) → StandsInSet n (meant_of_set v)
+    of_set : (v : TypedSet Place) → StandsAmong (within v) → UsesInSet n (meant_of_set v)
     of_set (typed_set t ss) (inl h) = of_here ss h
     of_set (typed_set t ss) (inr h) = of_all ss h
 
-    of_here : (ss : TypedSelections Place) → StandsThere ss → StandsAlong n (meant_of_all ss)
+    of_here : (ss : TypedSelections Place) → StandsThere ss → UsesAlong n (meant_of_all ss)
     of_here no_typed h = absurd h
     of_here (typed_then x xs) (inl h) = inl (of_one x h)
     of_here (typed_then x xs) (inr h) = inr (of_here xs h)
 
-    of_one : (x : TypedSelection Place) → StandsHere n (meant x) → StandsWithin n (meant x)
+    of_one : (x : TypedSelection Place) → StandsHere n (meant x) → UsesWithin n (meant x)
     of_one (TypedField p d h v) u = inl (elim u [ inl a ↦ inr a | inr e ↦ inl e ])
     of_one (TypedSpread p m ds) u = u
     of_one (TypedInline p c ds v) u = inl u
 
-    of_all : (ss : TypedSelections Place) → StandsAmong (within_all ss) → StandsAlong n (meant_of_all ss)
+    of_all : (ss : TypedSelections Place) → StandsAmong (within_all ss) → UsesAlong n (meant_of_all ss)
     of_all no_typed h = absurd h
     of_all (typed_then x xs) h = elim (among_either (within_one x) (within_all xs) h) [ inl k ↦ inl (of_below x k) | inr k ↦ inr (of_all xs k) ]
 
-    of_below : (x : TypedSelection Place) → StandsAmong (within_one x) → StandsWithin n (meant x)
+    of_below : (x : TypedSelection Place) → StandsAmong (within_one x) → UsesWithin n (meant x)
     of_below (TypedField p d h v) k = inr (of_set v k)
     of_below (TypedSpread p m ds) k = absurd k
     of_below (TypedInline p c ds v) k = inr (of_set v k)
 
   -- the names that are noted in a set
-  pub names_in : (v : TypedSet Place) → Contains (with_sets [] (within v)) n ↔ StandsInSet n (meant_of_set v)
+  pub names_in : (v : TypedSet Place) → Contains (with_sets [] (within v)) n ↔ UsesInSet n (meant_of_set v)
   names_in v =
       let all = in_sets [] (within v) in (
         λ c. elim (all.0 c) [ inl none ↦ not_in_nil n none | inr h ↦ of_set v h ],

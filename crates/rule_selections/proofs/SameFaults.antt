@@ -20,11 +20,11 @@ use Rattle.rule_document_definitions.specs.Reached.{AtReached, AtReachedField, A
 use Rattle.rule_document_definitions.specs.Selected.{InOperation, Standing, StandingField, inline_condition, spread_name, own}
 use Rattle.rule_document_definitions.specs.Selections.{SelectionsBreak}
 use Rattle.rule_document_definitions.specs.PlacedDocumentFaults.{places_in}
-use Rattle.rule_document_definitions.specs.UsedVariables.{StandsInDirectives, StandsInArguments, StandsInSelection, IsUsedIn}
+use Rattle.rule_document_definitions.specs.UsedVariables.{IsInDirectives, IsInArguments, IsInSelection, IsUsedIn}
 use Rattle.rule_document_definitions.specs.Variables.{VariablesBreak}
 use Rattle.rule_selections.specs.SelectionFaults.{without_subselection, MissesSubselection, ArgumentsOfBreak}
 use Rattle.rule_selections.specs.Typed.{ReachesTyped}
-use Rattle.rule_selections.specs.Settled.{Terms, AreDefinedIn, AppliesIn, StandsInFor, StandIn}
+use Rattle.rule_selections.specs.Settled.{Terms, AreDefinedIn, AppliesIn, IsReplacementOf, MayReplace}
 use Rattle.rule_selections.proofs.Elsewhere.{member, outline, Look, look, has_none, bare, placed}
 use Rattle.rule_selections.proofs.StillUsed.{Stands, still_used}
 use Rattle.rule_selections.proofs.Instead.{Other, stood_for, IsLeftOut, spreads_none, condition_applies, misses_none, takes_well, uses_well, at_more, at_all, at_all_fields, at_all_fragments}
@@ -36,7 +36,7 @@ none_there h = true≢false (sym (ap is_some h.1.0))
 nowhere : {X : Type 0} {R : ℕ → X → Type 0} → AtSomeIndex [] R → ⊥
 nowhere h = true≢false (sym (ap is_some h.1.1.0))
 
-module _ (s : Terms) (d : MeantDocument Place) (instead : Entries (MeantFragment Place)) (in' : StandIn s d.fragments instead) where
+module _ (s : Terms) (d : MeantDocument Place) (instead : Entries (MeantFragment Place)) (in' : MayReplace s d.fragments instead) where
   abbrev pub Else : MeantDocument Place
   Else = Other s d instead in'
 
@@ -105,7 +105,7 @@ module _ (s : Terms) (d : MeantDocument Place) (instead : Entries (MeantFragment
       abbrev head : MeantFragment Place → Text Place × Place
       head g = (g.type_condition, g.place)
 
-      heads : (h g : MeantFragment Place) → StandsInFor s h g → head h ≡ head g
+      heads : (h g : MeantFragment Place) → IsReplacementOf s h g → head h ≡ head g
       heads h g i = ap head i.0
 
       told : (l : Look) → Both instead l → Both d.fragments l
@@ -129,13 +129,13 @@ module _ (s : Terms) (d : MeantDocument Place) (instead : Entries (MeantFragment
     -- what variables are used
     module _ (n : List ℕ) where
       abbrev Given : StandingField Place → Type 0
-      Given f = StandsInArguments n f.head.arguments
+      Given f = IsInArguments n f.head.arguments
 
-      into : (x : Standing Place) → StandsInSelection n x → Stands n (look (member x))
+      into : (x : Standing Place) → IsInSelection n x → Stands n (look (member x))
       into x (inl h) = inl h
       into x (inr h) = inr (bare Given (λ f. refl) x.position x.parent x.it h)
 
-      out : (x : Standing Place) → Stands n (look (member x)) → StandsInSelection n x
+      out : (x : Standing Place) → Stands n (look (member x)) → IsInSelection n x
       out x (inl h) = inl h
       out x (inr h) = inr (placed Given (λ f. refl) x.position x.parent x.it h)
 
@@ -144,7 +144,7 @@ module _ (s : Terms) (d : MeantDocument Place) (instead : Entries (MeantFragment
 
       pub same_uses : IsUsedIn n Else o ↔ IsUsedIn n d o
       same_uses =
-          let named = at_all_fragments s d instead in' o (λ f. StandsInDirectives n f.directives) (λ g. refl) in (
+          let named = at_all_fragments s d instead in' o (λ f. IsInDirectives n f.directives) (λ g. refl) in (
             λ h. elim h [
               | inl u ↦ inl u
               | inr h ↦ elim h [

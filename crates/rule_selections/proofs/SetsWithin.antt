@@ -22,7 +22,7 @@ use Rattle.document_typed_selections.specs.declared.selection.SelectionSet.{Sele
 use Rattle.document_typed_selections.proofs.TypedTrees.{typed_set_tree_out, typed_tree_field, typed_tree_inline}
 use Rattle.spec_document.specs.MeantTree.{meant, meant_of_set}
 use Rattle.rule_definitions.proofs.Listing.{mapped_more}
-use Rattle.rule_selections.specs.Settled.{Terms, StandsInSet, Thins, LeavesBelow, LeavesOf, LeavesOfTyped}
+use Rattle.rule_selections.specs.Settled.{Terms, UsesInSet, Thins, LeavesBelow, LeavesOf, LeavesOfTyped}
 use Rattle.rule_selections.specs.Telling.{KeepsSelection, SettlesSet}
 use Rattle.rule_selections.specs.Within.{own_sets, sets_along, sets_below, within, within_one, within_all, typed_sets, last_first, waiting_sets, thin_sets, AreLeft, Takes, TakesBelow, TakesKept, TakesThinned, AreThinned}
 use Rattle.rule_selections.proofs.Leaving.{thins_same, leaves_same}
@@ -234,5 +234,5 @@ module _ (s : Terms) where
   copy_left v (Err e) Q same = tt
 
   pub copy_settles : {E : Type 0} (v : SelectionSet) (r : Result SelectionSet E) (Q : E → Type 0) → MatchResult r (λ copy. typed_set_tree copy ≡ typed_set_tree v) Q → IfOk r (λ copy. SettlesSet s v copy)
-  copy_settles v (Ok copy) Q same = (same_left (typed_set_tree v) (typed_set_tree copy) same, λ n u. subst (λ (x : TypedSet Place). StandsInSet n (meant_of_set x)) (sym same) u)
+  copy_settles v (Ok copy) Q same = (same_left (typed_set_tree v) (typed_set_tree copy) same, λ n u. subst (λ (x : TypedSet Place). UsesInSet n (meant_of_set x)) (sym same) u)
   copy_settles v (Err e) Q same = tt

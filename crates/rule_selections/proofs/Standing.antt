@@ -16,7 +16,7 @@ use Rattle.document_typed_operations.specs.TypedDocument.{TypedFragment, typed_f
 use Rattle.document_typed_operations.specs.declared.operation.Fragment.{Fragment}
 use Rattle.spec_document.specs.MeantTree.{MeantFragment}
 use Rattle.rule_reach.specs.in_typed_operations.DocumentView.{meant_by_fragment}
-use Rattle.rule_selections.specs.Settled.{Terms, fragment_meant, StandsInFor, StandIn}
+use Rattle.rule_selections.specs.Settled.{Terms, fragment_meant, IsReplacementOf, MayReplace}
 use Rattle.rule_selections.proofs.Leaving.{leaves_same}
 
 -- what entries mean
@@ -24,8 +24,8 @@ abbrev pub meant_entries : List (NameValue × Node Fragment) → Entries (MeantF
 meant_entries es = map (λ (e : List ℕ × Placed Place (TypedFragment Place)). (e.0, meant_by_fragment e.1)) (map (λ (e : NameValue × Node Fragment). (e.0.text, node_tree typed_fragment_tree e.1)) es)
 
 -- the fragments of a document may replace themselves
-pub stand_in_same : (s : Terms) (fragments : Entries (MeantFragment Place)) → StandIn s fragments fragments
-stand_in_same s fragments = record { there = λ n g is. (g, (is, (refl, (leaves_same s g.set, λ m u. u)))); absent = λ n is. is }
+pub replaces_itself : (s : Terms) (fragments : Entries (MeantFragment Place)) → MayReplace s fragments fragments
+replaces_itself s fragments = record { there = λ n g is. (g, (is, (refl, (leaves_same s g.set, λ m u. u)))); absent = λ n is. is }
 
 -- ---- a copy
 
@@ -83,14 +83,14 @@ module _ (k : NameValue) (v : Node Fragment) (n : List ℕ) where
           (later_is (bytes_eq n e.0.text) e (under n (meant_entries (insert_entry (same_text name_text) es k v))) (under n (meant_entries es)) rest)
 
 -- another stands there for a fragment
-pub stand_in_more : (s : Terms) (fragments old new : Entries (MeantFragment Place)) (k : NameValue) (g : MeantFragment Place) (v : Node Fragment) → under k.text fragments ≡ Some g → StandsInFor s (fragment_meant v) g
-    → ((n : List ℕ) → Replaced k v n (under n new) (under n old)) → StandIn s fragments old → StandIn s fragments new
-stand_in_more s fragments old new k g v is stands write in' = record { there = there; absent = absent }
+pub replaces_more : (s : Terms) (fragments old new : Entries (MeantFragment Place)) (k : NameValue) (g : MeantFragment Place) (v : Node Fragment) → under k.text fragments ≡ Some g → IsReplacementOf s (fragment_meant v) g
+    → ((n : List ℕ) → Replaced k v n (under n new) (under n old)) → MayReplace s fragments old → MayReplace s fragments new
+replaces_more s fragments old new k g v is stands write in' = record { there = there; absent = absent }
   where
-    there : (n : List ℕ) (x : MeantFragment Place) → under n fragments ≡ Some x → (h : MeantFragment Place) × ((under n new ≡ Some h) × StandsInFor s h x)
+    there : (n : List ℕ) (x : MeantFragment Place) → under n fragments ≡ Some x → (h : MeantFragment Place) × ((under n new ≡ Some h) × IsReplacementOf s h x)
     there n x at = elim (write n) [
       | inl e ↦ let h = in'.there n x at in (h.0, (e ∙ h.1.0, h.1.1))
-      | inr e ↦ let same : g ≡ x = some_is g x (sym is ∙ ap (λ m. under m fragments) (sym e.0) ∙ at) in (fragment_meant v, (e.1, subst (StandsInFor s (fragment_meant v)) same stands))
+      | inr e ↦ let same : g ≡ x = some_is g x (sym is ∙ ap (λ m. under m fragments) (sym e.0) ∙ at) in (fragment_meant v, (e.1, subst (IsReplacementOf s (fragment_meant v)) same stands))
     ]
 
     absent : (n : List ℕ) → under n fragments ≡ None → under n new ≡ None

@@ -21,7 +21,7 @@ use Rattle.rule_definitions.specs.PlacedFaults.{PlacedFault}
 use Rattle.rule_definitions.proofs.Room.{room_begins, room_silent}
 use Rattle.rule_definitions.proofs.Adding.{Gains}
 use Rattle.rule_selections.specs.SelectionFaults.{selects_none}
-use Rattle.rule_selections.specs.Settled.{Terms, filled, with_left, IsSettled, Thins, Leaves, LeavesOfTyped, KeepsUnlessSettled, UsesAll, StandsInFor}
+use Rattle.rule_selections.specs.Settled.{Terms, filled, with_left, IsSettled, Thins, Leaves, LeavesOfTyped, KeepsUnlessSettled, UsesAll, IsReplacementOf}
 
 -- where nothing was told, nothing breaks
 pub nothing_breaks : {R : PlacedFault → Type 0} (old new : List PlacedFault) → Gains old new R → new ≡ [] → (f : PlacedFault) → R f → ⊥
@@ -136,7 +136,7 @@ module _ (s : Terms) where
 
   -- ---- a fragment with what is left
 
-  pub stands_in : (h g : TypedFragment Place) (p q : Place) → h.name ≡ g.name → h.directives ≡ g.directives → p ≡ q → LeavesOfTyped s g.set h.set → UsesAll (meant_of_set h.set) (meant_of_set g.set)
-      → StandsInFor s (meant_by_fragment (record { it = h; place = p })) (meant_by_fragment (record { it = g; place = q }))
-  stands_in h g p q name directives place l uses =
+  pub lies_in : (h g : TypedFragment Place) (p q : Place) → h.name ≡ g.name → h.directives ≡ g.directives → p ≡ q → LeavesOfTyped s g.set h.set → UsesAll (meant_of_set h.set) (meant_of_set g.set)
+      → IsReplacementOf s (meant_by_fragment (record { it = h; place = p })) (meant_by_fragment (record { it = g; place = q }))
+  lies_in h g p q name directives place l uses =
       (λ i. record { place = place i; name = name i; type_condition = l.0 i; directives = directives i; set = meant_set (l.0 i).it no_meant }, (l.1, uses))

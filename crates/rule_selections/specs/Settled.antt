@@ -29,7 +29,7 @@ use Rattle.rule_definitions.specs.Names.{defined_name}
 use Rattle.rule_definitions.specs.PlacedFaults.{PlacedFault}
 use Rattle.rule_document_definitions.specs.PossibleTypes.{IsNotComposite, MayApply}
 use Rattle.rule_document_definitions.specs.Selected.{operations}
-use Rattle.rule_document_definitions.specs.UsedVariables.{StandsInArguments, StandsInDirectives}
+use Rattle.rule_document_definitions.specs.UsedVariables.{IsInArguments, IsInDirectives}
 use Rattle.rule_reach.specs.NotedNames.{noted_names}
 use Rattle.rule_reach.specs.Reach.{Member}
 use Rattle.rule_selections.specs.SelectionFaults.{SelectionBreaks}
@@ -100,21 +100,21 @@ KeepsIfDefined variables x old new = (y : Placed Place (VariableDefinitionTree P
 -- the variable `n` is in a selection or in what it selects, at any depth; fragments that are spread are not entered
 module _ (n : List ℕ) where
   abbrev mutual
-    pub StandsWithin : MeantSelection Place → Type 0
-    StandsWithin (MeantField p d h v) = (StandsInDirectives n h.directives ⊎ StandsInArguments n h.arguments) ⊎ StandsInSet v
-    StandsWithin (MeantSpread p m ds) = StandsInDirectives n ds
-    StandsWithin (MeantInline p c ds v) = StandsInDirectives n ds ⊎ StandsInSet v
+    pub UsesWithin : MeantSelection Place → Type 0
+    UsesWithin (MeantField p d h v) = (IsInDirectives n h.directives ⊎ IsInArguments n h.arguments) ⊎ UsesInSet v
+    UsesWithin (MeantSpread p m ds) = IsInDirectives n ds
+    UsesWithin (MeantInline p c ds v) = IsInDirectives n ds ⊎ UsesInSet v
 
-    pub StandsInSet : MeantSet Place → Type 0
-    StandsInSet (meant_set t ss) = StandsAlong ss
+    pub UsesInSet : MeantSet Place → Type 0
+    UsesInSet (meant_set t ss) = UsesAlong ss
 
-    pub StandsAlong : MeantSelections Place → Type 0
-    StandsAlong no_meant = ⊥
-    StandsAlong (meant_then x xs) = StandsWithin x ⊎ StandsAlong xs
+    pub UsesAlong : MeantSelections Place → Type 0
+    UsesAlong no_meant = ⊥
+    UsesAlong (meant_then x xs) = UsesWithin x ⊎ UsesAlong xs
 
 -- each variable that is in `whole` is in `left`
 abbrev pub UsesAll : MeantSet Place → MeantSet Place → Type 0
-UsesAll left whole = (n : List ℕ) → StandsInSet n whole → StandsInSet n left
+UsesAll left whole = (n : List ℕ) → UsesInSet n whole → UsesInSet n left
 
 -- ---- what may be left out
 
@@ -187,19 +187,19 @@ module _ (s : Terms) where
       ⊎ ((new ≡ old) × IsSettled ty (meant x))
 
   -- `h` is the fragment `g`, from which settled selections may be left out, at any depth; it uses all variables that `g` uses
-  abbrev pub StandsInFor : MeantFragment Place → MeantFragment Place → Type 0
-  StandsInFor h g = (emptied h ≡ emptied g) × (LeavesOf g.set h.set × UsesAll h.set g.set)
+  abbrev pub IsReplacementOf : MeantFragment Place → MeantFragment Place → Type 0
+  IsReplacementOf h g = (emptied h ≡ emptied g) × (LeavesOf g.set h.set × UsesAll h.set g.set)
 
   -- `instead` has names where `fragments` has names, and under each a fragment that may replace the one of that name
-  pub record StandIn (fragments instead : Entries (MeantFragment Place)) : Type 0 where
-    pub there : (n : List ℕ) (g : MeantFragment Place) → under n fragments ≡ Some g → (h : MeantFragment Place) × ((under n instead ≡ Some h) × StandsInFor h g)
+  pub record MayReplace (fragments instead : Entries (MeantFragment Place)) : Type 0 where
+    pub there : (n : List ℕ) (g : MeantFragment Place) → under n fragments ≡ Some g → (h : MeantFragment Place) × ((under n instead ≡ Some h) × IsReplacementOf h g)
     pub absent : (n : List ℕ) → under n fragments ≡ None → under n instead ≡ None
 
 module _ (s : SchemaTree Place) where
   -- `instead` may replace `fragments` in an operation with these variables, for some `common` variables that these define alike
-  abbrev pub StandInWith : Variables Place → (fragments instead : Entries (MeantFragment Place)) → Type 0
-  StandInWith variables fragments instead = (common : Variables Place) × (AreDefinedIn common variables × StandIn (record { schema = s; variables = common }) fragments instead)
+  abbrev pub MayReplaceWith : Variables Place → (fragments instead : Entries (MeantFragment Place)) → Type 0
+  MayReplaceWith variables fragments instead = (common : Variables Place) × (AreDefinedIn common variables × MayReplace (record { schema = s; variables = common }) fragments instead)
 
   -- `instead` may replace the fragments of the document in each of its operations
-  abbrev pub StandInEach : MeantDocument Place → Entries (MeantFragment Place) → Type 0
-  StandInEach d instead = (o : MeantOperation Place) → Contains (operations d) o → StandInWith o.variables d.fragments instead
+  abbrev pub MayReplaceInEach : MeantDocument Place → Entries (MeantFragment Place) → Type 0
+  MayReplaceInEach d instead = (o : MeantOperation Place) → Contains (operations d) o → MayReplaceWith o.variables d.fragments instead

@@ -30,7 +30,7 @@ use Rattle.rule_document_definitions.specs.Selections.{field_taker}
 use Rattle.rule_document_definitions.specs.PlacedDocumentFaults.{place_or_built_in, places_in}
 use Rattle.rule_reach.specs.Reach.{Member}
 use Rattle.graphql_schema.specs.SchemaOf.{schema_tree}
-use Rattle.rule_selections.specs.Settled.{Terms, UsesAll, ApplyWhereNoted, IsSettled, LeavesBelow, LeavesOfTyped, KeepsUnlessSettled, StandIn}
+use Rattle.rule_selections.specs.Settled.{Terms, UsesAll, ApplyWhereNoted, IsSettled, LeavesBelow, LeavesOfTyped, KeepsUnlessSettled, MayReplace}
 use Rattle.rule_selections.specs.SelectionFaults.{IsDefined, FieldBreaks, SelectionBreaks}
 use Rattle.rule_selections.specs.declared.common.Common.{Common}
 
@@ -82,8 +82,8 @@ module _ (s : Terms) where
   SettlesIfLeft ty selection left = LeavesBelow s (meant (typed_selection_tree selection)) (meant_of_set (typed_set_tree left)) → IsSettled s ty.text (meant (typed_selection_tree selection))
 
   -- if the `old` fragments may replace these, so may the `new` ones
-  abbrev pub StillStandIn : (fragments old new : Entries (MeantFragment Place)) → Type 0
-  StillStandIn fragments old new = StandIn s fragments old → StandIn s fragments new
+  abbrev pub StillMayReplace : (fragments old new : Entries (MeantFragment Place)) → Type 0
+  StillMayReplace fragments old new = MayReplace s fragments old → MayReplace s fragments new
 
   -- `left` is what is left of the set, and uses all variables that the set uses
   abbrev pub SettlesSet : SelectionSet → SelectionSet → Type 0

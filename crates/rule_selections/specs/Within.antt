@@ -1,4 +1,4 @@
--- Private: leads to `StandIn`. The sets within a set, and how they are thinned, from the last to the first.
+-- Private: leads to `MayReplace`. The sets within a set, and how they are thinned, from the last to the first.
 use Rattle.std.specs.Prelude.{◌≡◌, ◌++◌, ◌∷◌, List, [], map, fold, flat_map, Option, MatchOption}
 use Rattle.std.specs.Borrow.{Bor}
 use Rattle.graphql_names.specs.NameValue.{NameValue}

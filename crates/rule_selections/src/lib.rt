@@ -5,7 +5,7 @@
 //! (`fault_data`), over what the operation reaches in a document: `SelectionsBreak` under a schema, `GivenInBreaks` without one.
 //! What is reached in a typed document, or in a typed field set, is typed (`proofs/TypedReached.antt`).
 //!
-//! What operations share is judged once: `settled_fragments` gives what replaces the fragments of a document (`StandIn` of
+//! What operations share is judged once: `settled_fragments` gives what replaces the fragments of a document (`MayReplace` of
 //! `specs/Settled.antt`): fragments without those selections, at any depth, for which no fault is told under the variables that
 //! all operations define alike, and whose variables the rest of the fragment uses too. So a walk from an operation does not
 //! meet these selections, and still tells the same (`proofs/SameFaults.antt`).

@@ -3,8 +3,8 @@ ghost use Rattle.std.specs.Prelude.{IfOk, OnOk, unwrap_or};
 ghost use Rattle.graphql_schema.specs.SchemaOf.{schema_tree};
 ghost use Rattle.rule_reach.specs.in_typed_operations.DocumentView.{document_meant};
 ghost use Rattle.rule_reach.specs.Reach.{meant_fragments};
-ghost use Rattle.rule_selections.specs.Settled.{fragment_meant, ApplyWhereNoted, StandsInFor, StandIn, StandInEach};
-ghost use Rattle.rule_selections.specs.Telling.{terms_of, IsRight, StillStandIn, SettlesSet};
+ghost use Rattle.rule_selections.specs.Settled.{fragment_meant, ApplyWhereNoted, IsReplacementOf, MayReplace, MayReplaceInEach};
+ghost use Rattle.rule_selections.specs.Telling.{terms_of, IsRight, StillMayReplace, SettlesSet};
 
 use crate::common::{Common, common_variables};
 use crate::thinned::thinned;
@@ -39,7 +39,7 @@ fn thinned_fragment(
     fragment: &Node<Fragment>,
 ) -> Result<Node<Fragment>, AllocError>
     requires { IsRight common.now }
-    ensures { IfOk result (λ r. StandsInFor (terms_of common.now) (fragment_meant r) (fragment_meant fragment.now)) }
+    ensures { IfOk result (λ r. IsReplacementOf (terms_of common.now) (fragment_meant r) (fragment_meant fragment.now)) }
 {
     let own = fragment.content();
     let name = own.name.clone()?;
@@ -61,7 +61,7 @@ fn settle(
     instead: &mut FragmentMap,
 ) -> Result<(), AllocError>
     requires { IsRight common.now }
-    ensures { OnOk result (StillStandIn (terms_of common.now) (meant_fragments fragments.now) (meant_fragments instead.old) (meant_fragments instead.new)) }
+    ensures { OnOk result (StillMayReplace (terms_of common.now) (meant_fragments fragments.now) (meant_fragments instead.old) (meant_fragments instead.new)) }
 {
     let Some(fragment) = fragments.get(name) else {
         return Ok(());
@@ -78,7 +78,7 @@ fn settled_under(
     document: &ExecutableDocument,
 ) -> Result<FragmentMap, AllocError>
     requires { IsRight common.now }
-    ensures { IfOk result (λ r. StandIn (terms_of common.now) (document_meant document.now).fragments (meant_fragments r)) }
+    ensures { IfOk result (λ r. MayReplace (terms_of common.now) (document_meant document.now).fragments (meant_fragments r)) }
 {
     let mut instead = document.fragments.clone()?;
     for (name, _) in &document.fragments {
@@ -98,7 +98,7 @@ pub fn settled_fragments(
     document: &ExecutableDocument,
 ) -> Result<Option<FragmentMap>, AllocError>
     requires { ApplyWhereNoted (schema_tree schema.now) applying.now }
-    ensures { IfOk result (λ r. StandInEach (schema_tree schema.now) (document_meant document.now) (meant_fragments (unwrap_or r document.now.fragments))) }
+    ensures { IfOk result (λ r. MayReplaceInEach (schema_tree schema.now) (document_meant document.now) (meant_fragments (unwrap_or r document.now.fragments))) }
 {
     if document.operations.len() < 2 {
         return Ok(None);

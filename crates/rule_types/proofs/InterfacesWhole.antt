@@ -43,6 +43,6 @@ module _ (s : SchemaTree Place) where
       says_interfaces s n t there (distinct.parts (n, t) (under_given n s.types t there)) (λ m over is_there. distinct.parts (m, over) (under_given m s.types over is_there)))))
 
 -- what is told after other faults
-pub told_behind : (s : SchemaTree Place) → AreAllDistinct s → (types : List (NameValue × ExtendedType)) → s.types ≡ map (λ e. (name_text e.0, extended_type e.1)) types
+pub told_after : (s : SchemaTree Place) → AreAllDistinct s → (types : List (NameValue × ExtendedType)) → s.types ≡ map (λ e. (name_text e.0, extended_type e.1)) types
     → (old new : List PlacedFault) → new ≡ old ⊕ types_faults s types → (added : List PlacedFault) × ((new ≡ old ⊕ added) × ((f : PlacedFault) → Contains added f ↔ Told s InterfacesBreak f))
-told_behind s distinct types are old new is = (types_faults s types, (is, says_all s distinct types are))
+told_after s distinct types are old new is = (types_faults s types, (is, says_all s distinct types are))

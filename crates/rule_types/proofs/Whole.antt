@@ -106,7 +106,7 @@ module _ (s : SchemaTree Place) where
       (tells_same (Is s) _ (λ g. PlacesBreak (judged s) g) (λ g. TypesBreak (judged s) g) (λ g. (from_places (judged s) g, to_places (judged s) g)) (says_places distinct))
 
 -- what is told after other faults
-pub told_behind : (s : SchemaTree Place) → AreAllDistinct s → (types : List (NameValue × ExtendedType)) → s.types ≡ map (λ e. (name_text e.0, extended_type e.1)) types
+pub told_after : (s : SchemaTree Place) → AreAllDistinct s → (types : List (NameValue × ExtendedType)) → s.types ≡ map (λ e. (name_text e.0, extended_type e.1)) types
     → (directives : List (NameValue × Node DirectiveDefinition)) → s.directives ≡ map (λ e. (name_text e.0, node_tree directive_definition_tree e.1)) directives
     → (old new : List PlacedFault) → new ≡ old ⊕ all_faults s types directives → (added : List PlacedFault) × ((new ≡ old ⊕ added) × ((f : PlacedFault) → Contains added f ↔ Told s TypesBreak f))
-told_behind s distinct types are directives are' old new is = (all_faults s types directives, (is, says_all s distinct types are directives are'))
+told_after s distinct types are directives are' old new is = (all_faults s types directives, (is, says_all s distinct types are directives are'))

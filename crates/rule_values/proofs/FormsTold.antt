@@ -95,8 +95,8 @@ given_named m (entry_then n p v es) = by (bytes_eq n.it m) (given_named m es)
 -- ---- what each first entry of a name gives
 
 module _ {V Y : Type 0} (tells : List ℕ → V → List Y) (R : List ℕ → V → Y → Type 0) where
-  abbrev FirstBehind : List (List ℕ) → Entries V → Y → Type 0
-  FirstBehind before es f = (m : List ℕ) × ((is_key m before ≡ false) × Present (under m es) (λ x. R m x f))
+  abbrev FirstAfter : List (List ℕ) → Entries V → Y → Type 0
+  FirstAfter before es f = (m : List ℕ) × ((is_key m before ≡ false) × Present (under m es) (λ x. R m x f))
 
   -- each of the entries gives what the rule says
   abbrev EachTells : List (List ℕ) → Entries V → Type 0
@@ -117,20 +117,20 @@ module _ {V Y : Type 0} (tells : List ℕ → V → List Y) (R : List ℕ → V 
     abbrev Here : Y → Type 0
     Here f = (is_key e.0 before ≡ false) × R e.0 e.1 f
 
-    first_or_behind : (f : Y) → (Here f ⊎ FirstBehind (e.0 ∷ before) es f) ↔ FirstBehind before (e ∷ es) f
-    first_or_behind f = (to, λ q. from q.0 (bytes_eq e.0 q.0) refl q.1.0 q.1.1)
+    first_or_after : (f : Y) → (Here f ⊎ FirstAfter (e.0 ∷ before) es f) ↔ FirstAfter before (e ∷ es) f
+    first_or_after f = (to, λ q. from q.0 (bytes_eq e.0 q.0) refl q.1.0 q.1.1)
       where
         not_or : (a b : Bool) → (a || b) ≡ false → (a ≡ false) × (b ≡ false)
         not_or true b h = no_true (sym h)
         not_or false b h = (refl, h)
 
-        to : Here f ⊎ FirstBehind (e.0 ∷ before) es f → FirstBehind before (e ∷ es) f
+        to : Here f ⊎ FirstAfter (e.0 ∷ before) es f → FirstAfter before (e ∷ es) f
         to (inl (new, r)) = (e.0, (new, (e.1, (under_first e.0 refl, r))))
         to (inr (m, (new, (x, (has, r))))) =
             let two = not_or (bytes_eq e.0 m) (is_key m before) new in
             (m, (two.1, (x, (under_later m two.0 ∙ has, r))))
 
-        from : (m : List ℕ) (b : Bool) → bytes_eq e.0 m ≡ b → is_key m before ≡ false → Present (under m (e ∷ es)) (λ x. R m x f) → Here f ⊎ FirstBehind (e.0 ∷ before) es f
+        from : (m : List ℕ) (b : Bool) → bytes_eq e.0 m ≡ b → is_key m before ≡ false → Present (under m (e ∷ es)) (λ x. R m x f) → Here f ⊎ FirstAfter (e.0 ∷ before) es f
         from m true t new (x, (has, r)) =
             let same : e.0 ≡ m = (bytes_eq-Decides e.0 m).0 t in
             let value : x ≡ e.1 = one x (sym (under_first m same) ∙ has) in
@@ -140,20 +140,20 @@ module _ {V Y : Type 0} (tells : List ℕ → V → List Y) (R : List ℕ → V 
             one y h = cc
         from m false t new (x, (has, r)) = inr (m, (ap (λ b. b || is_key m before) t ∙ new, (x, (sym (under_later m t) ∙ has, r))))
 
-  tells_firsts : (before : List (List ℕ)) (es : Entries V) → EachTells before es → Tells (each_first tells before es) (FirstBehind before es)
-  tells_firsts before [] each = tells_nothing (FirstBehind before []) (λ f q. no_some q.1.1.0 q.1.1.1.0)
+  tells_firsts : (before : List (List ℕ)) (es : Entries V) → EachTells before es → Tells (each_first tells before es) (FirstAfter before es)
+  tells_firsts before [] each = tells_nothing (FirstAfter before []) (λ f q. no_some q.1.1.0 q.1.1.1.0)
   tells_firsts before (e ∷ es) each =
-      tells_same _ (λ f. Here before e es f ⊎ FirstBehind (e.0 ∷ before) es f) (FirstBehind before (e ∷ es)) (first_or_behind before e es)
-      (tells_both (if is_key e.0 before then [] else tells e.0 e.1) (each_first tells (e.0 ∷ before) es) (Here before e es) (FirstBehind (e.0 ∷ before) es)
+      tells_same _ (λ f. Here before e es f ⊎ FirstAfter (e.0 ∷ before) es f) (FirstAfter before (e ∷ es)) (first_or_after before e es)
+      (tells_both (if is_key e.0 before then [] else tells e.0 e.1) (each_first tells (e.0 ∷ before) es) (Here before e es) (FirstAfter (e.0 ∷ before) es)
       (first (is_key e.0 before) refl)
-      (tells_firsts (e.0 ∷ before) es (λ m x new has. each m x (behind m new).1 (under_later before e es m (behind m new).0 ∙ has))))
+      (tells_firsts (e.0 ∷ before) es (λ m x new has. each m x (following m new).1 (under_later before e es m (following m new).0 ∙ has))))
     where
       not_or : (a b : Bool) → (a || b) ≡ false → (a ≡ false) × (b ≡ false)
       not_or true b h = no_true (sym h)
       not_or false b h = (refl, h)
 
-      behind : (m : List ℕ) → is_key m (e.0 ∷ before) ≡ false → (bytes_eq e.0 m ≡ false) × (is_key m before ≡ false)
-      behind m new = not_or (bytes_eq e.0 m) (is_key m before) new
+      following : (m : List ℕ) → is_key m (e.0 ∷ before) ≡ false → (bytes_eq e.0 m ≡ false) × (is_key m before ≡ false)
+      following m new = not_or (bytes_eq e.0 m) (is_key m before) new
 
       first : (b : Bool) → is_key e.0 before ≡ b → Tells (if b then [] else tells e.0 e.1) (λ f. (b ≡ false) × R e.0 e.1 f)
       first true t = tells_nothing _ (λ f q. no_true (sym q.0))
@@ -162,7 +162,7 @@ module _ {V Y : Type 0} (tells : List ℕ → V → List Y) (R : List ℕ → V 
   -- of each entry that a name finds
   pub tells_entries : (es : Entries V) → ((m : List ℕ) (x : V) → under m es ≡ Some x → Tells (tells m x) (R m x)) → Tells (each_first tells [] es) (λ f. (m : List ℕ) × Present (under m es) (λ x. R m x f))
   tells_entries es each =
-      tells_same _ (FirstBehind [] es) _ (λ f. (λ q. (q.0, q.1.1), λ q. (q.0, (refl, q.1)))) (tells_firsts [] es (λ m x new has. each m x has))
+      tells_same _ (FirstAfter [] es) _ (λ f. (λ q. (q.0, q.1.1), λ q. (q.0, (refl, q.1)))) (tells_firsts [] es (λ m x new has. each m x has))
 
 required_unplaced : (v : InputValueTree Place) → is_required_input (unplaced_input_value v) ≡ is_required_input v
 required_unplaced v = (λ i. mark_unplaced v.ty.it i && is_none_mapped (unplaced_node unplaced_value) v.default_value i)
@@ -343,16 +343,16 @@ module _ (s : SchemaTree Place) (variables : Variables Place) (ty : TypeTree Pla
     abbrev Second : PlacedFault → Type 0
     Second f = Breaks IntCoercionErrorAt f ⊎ Third f
 
-    abbrev behind_first : List ℕ → List PlacedFault
-    behind_first n = int_coercion_error n t p v ++ (undefined_enum_value n t p v ++ (undefined_input_value n t v ++ required_fields n t p v))
+    abbrev after_first : List ℕ → List PlacedFault
+    after_first n = int_coercion_error n t p v ++ (undefined_enum_value n t p v ++ (undefined_input_value n t v ++ required_fields n t p v))
 
-    behind_told : Tells (behind_first name) Second
-    behind_told =
+    after_told : Tells (after_first name) Second
+    after_told =
         tells_both (int_coercion_error name t p v) (undefined_enum_value name t p v ++ (undefined_input_value name t v ++ required_fields name t p v)) (Breaks IntCoercionErrorAt) Third int_told
         (tells_both (undefined_enum_value name t p v) (undefined_input_value name t v ++ required_fields name t p v) (Breaks UndefinedEnumValueAt) Fourth enum_told
         (tells_both (undefined_input_value name t v) (required_fields name t p v) (Breaks UndefinedInputValueAt) (Breaks RequiredFieldAt) input_told required_told))
 
     pub form_told : Tells (form_faults variables ty at_type t p v) (Breaks FormBreaks)
     form_told =
-        tells_both (unsupported_value_type variables ty at_type t p v) (behind_first (inner_name ty).it) (Breaks UnsupportedValueTypeAt) Second unsupported_told
-        (subst (λ n. Tells (behind_first n) Second) (sym same_name) behind_told)
+        tells_both (unsupported_value_type variables ty at_type t p v) (after_first (inner_name ty).it) (Breaks UnsupportedValueTypeAt) Second unsupported_told
+        (subst (λ n. Tells (after_first n) Second) (sym same_name) after_told)

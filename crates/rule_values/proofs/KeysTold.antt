@@ -66,16 +66,16 @@ module _ {X : Type 0} (name : X → List ℕ) where
     one_repeat before x = option_map_or (λ first. tell first x ∷ []) (first_named before (name x)) []
 
     -- each that has the name of one before it, with the first of that name
-    abbrev pub repeats_behind : List X → List X → List Y
-    repeats_behind before [] = []
-    repeats_behind before (x ∷ xs) = one_repeat before x ++ repeats_behind (before ++ x ∷ []) xs
+    abbrev pub repeats_after : List X → List X → List Y
+    repeats_after before [] = []
+    repeats_after before (x ∷ xs) = one_repeat before x ++ repeats_after (before ++ x ∷ []) xs
 
     -- the same by index, of the whole list
     abbrev RepeatAt : List X → ℕ → X → Y → Type 0
     RepeatAt all j x f = FirstNamed name all (name x) (λ i first. (i < j) × (f ≡ tell first x))
 
-    abbrev RepeatsBehind : List X → List X → List X → Y → Type 0
-    RepeatsBehind all before xs f = AtSomeIndex xs (λ k x. RepeatAt all (length before + k) x f)
+    abbrev RepeatsAfter : List X → List X → List X → Y → Type 0
+    RepeatsAfter all before xs f = AtSomeIndex xs (λ k x. RepeatAt all (length before + k) x f)
 
     one_told : (before xs : List X) (x : X) → Tells (one_repeat before x) (RepeatAt (before ++ x ∷ xs) (length before) x)
     one_told before xs x =
@@ -98,12 +98,12 @@ module _ {X : Type 0} (name : X → List ℕ) where
           ),
         )
 
-    behind_told : (before xs : List X) → Tells (repeats_behind before xs) (RepeatsBehind (before ++ xs) before xs)
-    behind_told before [] = tells_nothing _ (λ f q. no_some q.1.0 q.1.1.0)
-    behind_told before (x ∷ xs) =
-        tells_same _ (λ f. RepeatAt (before ++ x ∷ xs) (length before) x f ⊎ RepeatsBehind (before ++ x ∷ xs) (before ++ x ∷ []) xs f) _ (λ f. (to f, λ q. from f q.0 q.1))
+    after_told : (before xs : List X) → Tells (repeats_after before xs) (RepeatsAfter (before ++ xs) before xs)
+    after_told before [] = tells_nothing _ (λ f q. no_some q.1.0 q.1.1.0)
+    after_told before (x ∷ xs) =
+        tells_same _ (λ f. RepeatAt (before ++ x ∷ xs) (length before) x f ⊎ RepeatsAfter (before ++ x ∷ xs) (before ++ x ∷ []) xs f) _ (λ f. (to f, λ q. from f q.0 q.1))
         (tells_both _ _ _ _ (one_told before xs x)
-        (subst (λ all. Tells (repeats_behind (before ++ x ∷ []) xs) (RepeatsBehind all (before ++ x ∷ []) xs)) (append_assoc before (x ∷ []) xs) (behind_told (before ++ x ∷ []) xs)))
+        (subst (λ all. Tells (repeats_after (before ++ x ∷ []) xs) (RepeatsAfter all (before ++ x ∷ []) xs)) (append_assoc before (x ∷ []) xs) (after_told (before ++ x ∷ []) xs)))
       where
         all : List X
         all = before ++ x ∷ xs
@@ -115,22 +115,22 @@ module _ {X : Type 0} (name : X → List ℕ) where
         at_start : (ys : List X) → length ys + 0 ≡ length ys
         at_start ys = omega arith
 
-        to : (f : Y) → RepeatAt all (length before) x f ⊎ RepeatsBehind all (before ++ x ∷ []) xs f → RepeatsBehind all before (x ∷ xs) f
+        to : (f : Y) → RepeatAt all (length before) x f ⊎ RepeatsAfter all (before ++ x ∷ []) xs f → RepeatsAfter all before (x ∷ xs) f
         to f (inl r) = (zero, (x, (refl, subst (λ j. RepeatAt all j x f) (sym (at_start before)) r)))
         to f (inr (k, (y, (e, r)))) = (suc k, (y, (e, subst (λ j. RepeatAt all j y f) (longer before x k) r)))
 
-        from : (f : Y) (k : ℕ) → Present (slice_get (x ∷ xs) k) (λ y. RepeatAt all (length before + k) y f) → RepeatAt all (length before) x f ⊎ RepeatsBehind all (before ++ x ∷ []) xs f
+        from : (f : Y) (k : ℕ) → Present (slice_get (x ∷ xs) k) (λ y. RepeatAt all (length before + k) y f) → RepeatAt all (length before) x f ⊎ RepeatsAfter all (before ++ x ∷ []) xs f
         from f zero (y, (e, r)) = let same : y ≡ x = cc in inl (subst (λ j. RepeatAt all j x f) (at_start before) (subst (λ z. RepeatAt all (length before + 0) z f) same r))
         from f (suc k) (y, (e, r)) = inr (k, (y, (e, subst (λ j. RepeatAt all j y f) (sym (longer before x k)) r)))
 
-    pub repeats_told : (xs : List X) → Tells (repeats_behind [] xs) (λ f. Repeats name xs (λ i first j later. f ≡ tell first later))
+    pub repeats_told : (xs : List X) → Tells (repeats_after [] xs) (λ f. Repeats name xs (λ i first j later. f ≡ tell first later))
     repeats_told xs =
-        tells_same _ (RepeatsBehind xs [] xs) _
+        tells_same _ (RepeatsAfter xs [] xs) _
         (λ f. (
           λ r. (r.0, (r.1.0, (r.1.1.0, subst (λ j. RepeatAt xs j r.1.0 f) (none_more r.0) r.1.1.1))),
           λ r. (r.0, (r.1.0, (r.1.1.0, subst (λ j. RepeatAt xs j r.1.0 f) (sym (none_more r.0)) r.1.1.1))),
         ))
-        (behind_told [] xs)
+        (after_told [] xs)
       where
         none_more : (k : ℕ) → 0 + k ≡ k
         none_more k = omega arith
@@ -156,7 +156,7 @@ key_of_entries (e ∷ before) x = by (bytes_eq e.0.it x.0.it) (key_of_entries be
     by true rest = refl
     by false rest = rest
 
-keys_are : (before : List Entry) (es : EntryTrees Place) → repeated_keys (map (λ (e : Entry). e.0) before) es ≡ repeats_behind key told before (entry_list es)
+keys_are : (before : List Entry) (es : EntryTrees Place) → repeated_keys (map (λ (e : Entry). e.0) before) es ≡ repeats_after key told before (entry_list es)
 keys_are before no_entries = refl
 keys_are before (entry_then n p v es) =
     let x : Entry = (n, record { it = v; place = p }) in

@@ -25,20 +25,20 @@ module _ {X V Y : Type 0} (f : List ℕ → V → List Y) (g : X → V) where
   abbrev each : List (NameValue × X) → List Y
   each es = flat_map (λ (e : NameValue × X). f e.0.text (g e.1)) es
 
-  each_behind : (before : List (List ℕ)) (es : List (NameValue × X)) → IsDistinct (same_text name_text) (keys_of es) → AllByRecursion (λ k. is_key k.text before ≡ false) (keys_of es)
+  each_after : (before : List (List ℕ)) (es : List (NameValue × X)) → IsDistinct (same_text name_text) (keys_of es) → AllByRecursion (λ k. is_key k.text before ≡ false) (keys_of es)
       → each_first f before (map (λ e. (name_text e.0, g e.1)) es) ≡ each es
   unfolding IsDistinct
-  each_behind before [] unique new = refl
-  each_behind before (e ∷ es) unique new =
+  each_after before [] unique new = refl
+  each_after before (e ∷ es) unique new =
       (λ i. (if new.0 i then [] else f e.0.text (g e.1)) ++ each_first f (e.0.text ∷ before) (map (λ e. (name_text e.0, g e.1)) es))
-      ∙ ap (λ l. f e.0.text (g e.1) ++ l) (each_behind (e.0.text ∷ before) es unique.1 (further (keys_of es) unique.0 new.1))
+      ∙ ap (λ l. f e.0.text (g e.1) ++ l) (each_after (e.0.text ∷ before) es unique.1 (further (keys_of es) unique.0 new.1))
     where
       further : (ks : List NameValue) → AllByRecursion (λ k. same_text name_text e.0 k ≡ false) ks → AllByRecursion (λ k. is_key k.text before ≡ false) ks → AllByRecursion (λ k. is_key k.text (e.0.text ∷ before) ≡ false) ks
       further [] other new = tt
       further (k ∷ ks) other new = (ap (λ b. b || is_key k.text before) other.0 ∙ new.0, further ks other.1 new.1)
 
   pub each_first_all : (es : List (NameValue × X)) → IsDistinct (same_text name_text) (keys_of es) → each_first f [] (map (λ e. (name_text e.0, g e.1)) es) ≡ each es
-  each_first_all es unique = each_behind [] es unique (all_new (keys_of es))
+  each_first_all es unique = each_after [] es unique (all_new (keys_of es))
     where
       all_new : (ks : List NameValue) → AllByRecursion (λ k. is_key k.text [] ≡ false) ks
       all_new [] = tt

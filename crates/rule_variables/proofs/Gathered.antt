@@ -8,7 +8,7 @@ use Rattle.rule_definitions.proofs.Lists.{not_in_nil}
 use Rattle.schema_types.specs.Addresses.{Address}
 use Rattle.rule_document_definitions.specs.Selected.{own}
 use Rattle.rule_document_definitions.specs.Reached.{AtReached, AtReachedFragment}
-use Rattle.rule_document_definitions.specs.UsedVariables.{StandsInDirectives, StandsInSelection, IsUsedIn}
+use Rattle.rule_document_definitions.specs.UsedVariables.{IsInDirectives, IsInSelection, IsUsedIn}
 use Rattle.rule_document_definitions.specs.Variables.{UnusedVariableAt}
 use Rattle.rule_reach.specs.Reach.{Member, IsReach}
 use Rattle.rule_reach.proofs.AtReaches.{at_reached, at_reached_fragment}
@@ -25,18 +25,18 @@ module _ (d : MeantDocument Place) (o : MeantOperation Place) (members : List (M
     in_members : (ns : List (List ℕ)) → Contains (with_members ns members) n ↔ (Contains ns n ⊎ AtSomeIndex members (λ i e. StandsHere n e.1))
     in_members ns = in_fold (λ ms (e : Member Place). with_selection ms e.1) (λ e. StandsHere n e.1) n (λ ms e. in_selection n ms e.1) ns members
 
-    in_fragments : (ns : List (List ℕ)) → Contains (with_fragments ns fragments) n ↔ (Contains ns n ⊎ AtSomeIndex fragments (λ i f. StandsInDirectives n f.directives))
-    in_fragments ns = in_fold (λ ms (f : MeantFragment Place). with_directives ms f.directives) (λ f. StandsInDirectives n f.directives) n (λ ms f. in_directives n ms f.directives) ns fragments
+    in_fragments : (ns : List (List ℕ)) → Contains (with_fragments ns fragments) n ↔ (Contains ns n ⊎ AtSomeIndex fragments (λ i f. IsInDirectives n f.directives))
+    in_fragments ns = in_fold (λ ms (f : MeantFragment Place). with_directives ms f.directives) (λ f. IsInDirectives n f.directives) n (λ ms f. in_directives n ms f.directives) ns fragments
 
-    selected : AtSomeIndex members (λ i e. StandsHere n e.1) ↔ AtReached d o (StandsInSelection n)
+    selected : AtSomeIndex members (λ i e. StandsHere n e.1) ↔ AtReached d o (IsInSelection n)
     selected =
         let there = at_reached d o members fragments reach (λ (e : Member Place). StandsHere n e.1) in (
           λ a. let r = there.0 a in (r.0, (r.1.0, (stands_here n r.0).0 r.1.1)),
           λ r. there.1 (r.0, (r.1.0, (stands_here n r.0).1 r.1.1)),
         )
 
-    spread : AtSomeIndex fragments (λ i f. StandsInDirectives n f.directives) ↔ AtReachedFragment d o (λ f. StandsInDirectives n f.directives)
-    spread = at_reached_fragment d o members fragments reach (λ (f : MeantFragment Place). StandsInDirectives n f.directives)
+    spread : AtSomeIndex fragments (λ i f. IsInDirectives n f.directives) ↔ AtReachedFragment d o (λ f. IsInDirectives n f.directives)
+    spread = at_reached_fragment d o members fragments reach (λ (f : MeantFragment Place). IsInDirectives n f.directives)
 
     used_is : Contains (with_used [] o.directives members fragments) n ↔ IsUsedIn n d o
     used_is = (

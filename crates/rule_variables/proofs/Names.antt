@@ -8,7 +8,7 @@ use Rattle.graphql_names.specs.Placed.{Place}
 use Rattle.spec_document.specs.MeantTree.{MeantSelection, MeantField, MeantSpread, MeantInline}
 use Rattle.rule_definitions.proofs.Lists.{not_in_nil, Contains-cons, Contains-first}
 use Rattle.rule_document_definitions.specs.Selected.{Position, Standing}
-use Rattle.rule_document_definitions.specs.UsedVariables.{StandsInArguments, StandsInSelection}
+use Rattle.rule_document_definitions.specs.UsedVariables.{IsInArguments, IsInSelection}
 use Rattle.rule_reach.proofs.UsedNames.{StandsHere}
 
 -- ---- a name among those of keys
@@ -34,13 +34,13 @@ any_among n (k ∷ ks) = by (bytes_eq n k.text) refl (any_among n ks)
 -- ---- selections
 
 module _ (n : List ℕ) where
-  here : (at : Position) (t : List ℕ) (x : MeantSelection Place) → StandsHere n x ↔ StandsInSelection n (record { position = at; parent = t; it = x })
+  here : (at : Position) (t : List ℕ) (x : MeantSelection Place) → StandsHere n x ↔ IsInSelection n (record { position = at; parent = t; it = x })
   here at t (MeantField p d h s) = (
     λ r. elim r [ inl a ↦ inr (record { position = at; parent = t; place = p; definition = d; head = h; set = s }, (refl, a)) | inr e ↦ inl e ],
-    λ r. elim r [ inl e ↦ inr e | inr f ↦ let same : f.0.head.arguments ≡ h.arguments = cc in inl (subst (StandsInArguments n) same f.1.1) ],
+    λ r. elim r [ inl e ↦ inr e | inr f ↦ let same : f.0.head.arguments ≡ h.arguments = cc in inl (subst (IsInArguments n) same f.1.1) ],
   )
   here at t (MeantSpread p m ds) = (λ e. inl e, λ r. elim r [ inl e ↦ e | inr f ↦ absurd (true≢false (sym (ap is_some f.1.0))) ])
   here at t (MeantInline p c ds s) = (λ e. inl e, λ r. elim r [ inl e ↦ e | inr f ↦ absurd (true≢false (sym (ap is_some f.1.0))) ])
 
-  pub stands_here : (x : Standing Place) → StandsHere n x.it ↔ StandsInSelection n x
+  pub stands_here : (x : Standing Place) → StandsHere n x.it ↔ IsInSelection n x
   stands_here x = here x.position x.parent x.it

@@ -1,13 +1,13 @@
 //! What names belong to.
 ghost use Rattle.std.specs.Prelude.{◌≡◌, IfOk};
-ghost use Rattle.schema_coordinates.specs.Coordinate.{OfAttribute, OfArgument, OfDirectiveArgument};
 ghost use Rattle.schema_coordinates.specs.CoordinateView.{schema_coordinate};
 ghost use Rattle.rule_warnings.specs.Telling.{kind_by, coordinate_by};
 
 use crate::deprecated_use::UseKind;
 use graphql_names::Name;
 use schema_coordinates::{
-    DirectiveArgumentCoordinate, FieldArgumentCoordinate, SchemaCoordinate, TypeAttributeCoordinate,
+    SchemaCoordinate, coordinate_of_argument, coordinate_of_attribute,
+    coordinate_of_directive_argument,
 };
 use std::alloc::AllocError;
 
@@ -41,45 +41,12 @@ impl Owner<'_> {
     {
         match self {
             Owner::OfField(ty) | Owner::OfInputField(ty) | Owner::OfEnumValue(ty) => {
-                attribute(ty, name)
+                coordinate_of_attribute(ty, name)
             }
-            Owner::OfFieldArgument(ty, field) => field_argument(ty, field, name),
-            Owner::OfDirectiveArgument(directive) => directive_argument(directive, name),
+            Owner::OfFieldArgument(ty, field) => coordinate_of_argument(ty, field, name),
+            Owner::OfDirectiveArgument(directive) => {
+                coordinate_of_directive_argument(directive, name)
+            }
         }
     }
-}
-
-/// `T.a`
-fn attribute(ty: &Name, attribute: &Name) -> Result<SchemaCoordinate, AllocError>
-    ensures { IfOk result (λ c. schema_coordinate c ≡ OfAttribute ty.now.text attribute.now.text) }
-{
-    let ty = ty.clone()?;
-    Ok(SchemaCoordinate::TypeAttribute(TypeAttributeCoordinate {
-        ty,
-        attribute: attribute.clone()?,
-    }))
-}
-
-/// `T.f(a:)`
-fn field_argument(ty: &Name, field: &Name, argument: &Name) -> Result<SchemaCoordinate, AllocError>
-    ensures { IfOk result (λ c. schema_coordinate c ≡ OfArgument ty.now.text field.now.text argument.now.text) }
-{
-    let ty = ty.clone()?;
-    let field = field.clone()?;
-    Ok(SchemaCoordinate::FieldArgument(FieldArgumentCoordinate {
-        ty,
-        field,
-        argument: argument.clone()?,
-    }))
-}
-
-/// `@d(a:)`
-fn directive_argument(directive: &Name, argument: &Name) -> Result<SchemaCoordinate, AllocError>
-    ensures { IfOk result (λ c. schema_coordinate c ≡ OfDirectiveArgument directive.now.text argument.now.text) }
-{
-    let directive = directive.clone()?;
-    Ok(SchemaCoordinate::DirectiveArgument(DirectiveArgumentCoordinate {
-        directive,
-        argument: argument.clone()?,
-    }))
 }

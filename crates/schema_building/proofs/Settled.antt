@@ -36,11 +36,11 @@ unfolding built_in_definitions
 no_schema_extension = refl
 
 -- definitions without extensions after numbered ones, and numbered ones after what is built in
-plain_behind : (first : ℕ) (xs ys : Definitions) → list_any is_extension ys ≡ false → numbered first xs ++ map unnumbered ys ≡ numbered first (xs ++ ys)
-plain_behind first xs ys none = ap (λ l. numbered first xs ++ l) (sym (after_none first xs ys none)) ∙ sym (after_append first [] xs ys)
+plain_after : (first : ℕ) (xs ys : Definitions) → list_any is_extension ys ≡ false → numbered first xs ++ map unnumbered ys ≡ numbered first (xs ++ ys)
+plain_after first xs ys none = ap (λ l. numbered first xs ++ l) (sym (after_none first xs ys none)) ∙ sym (after_append first [] xs ys)
 
-behind_built_in : (first : ℕ) (ys : Definitions) → map unnumbered built_in_definitions ++ numbered first ys ≡ numbered first (built_in_definitions ++ ys)
-behind_built_in first ys =
+after_built_in : (first : ℕ) (ys : Definitions) → map unnumbered built_in_definitions ++ numbered first ys ≡ numbered first (built_in_definitions ++ ys)
+after_built_in first ys =
     (λ i. sym (after_none first [] built_in_definitions no_extension) i ++ after_same first [] built_in_definitions ys (sym (count_zero built_in_definitions no_extension)) i)
     ∙ sym (after_append first [] built_in_definitions ys)
 
@@ -183,50 +183,50 @@ adopted_schema_is : (texts : Definitions) → adopted_schema (built_in_definitio
 adopted_schema_is texts = ap (λ b. schema_if (b && not (schema_is_defined (built_in_definitions ++ texts))))
     (list_any-append (λ d. is_some (schema_extension_here d)) built_in_definitions texts ∙ ap (λ b. b || list_any (λ d. is_some (schema_extension_here d)) texts) no_schema_extension)
 
-schema_behind : (first : ℕ) (texts : Definitions) → numbered first (built_in_definitions ++ texts) ++ map unnumbered (adopted_schema (definitions_of (numbered first (built_in_definitions ++ texts))))
+schema_after : (first : ℕ) (texts : Definitions) → numbered first (built_in_definitions ++ texts) ++ map unnumbered (adopted_schema (definitions_of (numbered first (built_in_definitions ++ texts))))
     ≡ numbered first (built_in_definitions ++ with_schema built_in_definitions texts)
-schema_behind first texts =
+schema_after first texts =
     let all = built_in_definitions ++ texts in
     let schema = schema_if (has_orphan_schema built_in_definitions texts) in
     ap (λ ds. numbered first all ++ map unnumbered ds) (ap adopted_schema (definitions_numbered first all) ∙ adopted_schema_is texts)
-    ∙ plain_behind first all schema (schema_no_extension (has_orphan_schema built_in_definitions texts))
+    ∙ plain_after first all schema (schema_no_extension (has_orphan_schema built_in_definitions texts))
     ∙ ap (numbered first) (append_assoc built_in_definitions texts schema)
 
-types_behind : (first : ℕ) (texts : Definitions) → numbered first (built_in_definitions ++ texts) ++ map (λ k. unnumbered (empty_of k)) (first_kinds (orphans built_in_definitions texts))
+types_after : (first : ℕ) (texts : Definitions) → numbered first (built_in_definitions ++ texts) ++ map (λ k. unnumbered (empty_of k)) (first_kinds (orphans built_in_definitions texts))
     ≡ numbered first (built_in_definitions ++ with_types built_in_definitions texts)
-types_behind first texts =
+types_after first texts =
     let all = built_in_definitions ++ texts in
     let es = firsts parts_key (orphans built_in_definitions texts) in
     ap (λ l. numbered first all ++ l) (adopted_listed es)
-    ∙ plain_behind first all (map (empty_type built_in_definitions) es) (adopted_no_extension es)
+    ∙ plain_after first all (map (empty_type built_in_definitions) es) (adopted_no_extension es)
     ∙ ap (numbered first) (append_assoc built_in_definitions texts (map (empty_type built_in_definitions) es))
 
 -- ---- all of it
 
 module _ (first : ℕ) (ds : Definitions) (waiting : List NamedKind) (are : waiting ≡ first_kinds (orphans built_in_definitions ds)) where
-  kept_behind : (ignores : Bool) → map unnumbered built_in_definitions ++ filter (is_kept ignores) (numbered first ds) ≡ numbered first (built_in_definitions ++ kept_texts ignores ds)
-  kept_behind ignores = ap (λ l. map unnumbered built_in_definitions ++ l) (keeps ignores first ds) ∙ behind_built_in first (kept_texts ignores ds)
+  kept_after : (ignores : Bool) → map unnumbered built_in_definitions ++ filter (is_kept ignores) (numbered first ds) ≡ numbered first (built_in_definitions ++ kept_texts ignores ds)
+  kept_after ignores = ap (λ l. map unnumbered built_in_definitions ++ l) (keeps ignores first ds) ∙ after_built_in first (kept_texts ignores ds)
 
   settled_by : (adopts ignores : Bool) → settled_from (record { adopts = adopts; ignores = ignores }) (numbered first ds) waiting (map unnumbered built_in_definitions)
       ≡ numbered first (built_in_definitions ++ settled built_in_definitions (record { adopts = adopts; ignores = ignores }) ds)
-  settled_by false ignores = kept_behind ignores
+  settled_by false ignores = kept_after ignores
   settled_by true ignores =
       let texts = kept_texts ignores ds in
       let types : (map unnumbered built_in_definitions ++ filter (is_kept ignores) (numbered first ds)) ++ map (λ k. unnumbered (empty_of k)) waiting ≡ numbered first (built_in_definitions ++ with_types built_in_definitions texts) =
-      (λ i. kept_behind ignores i ++ map (λ k. unnumbered (empty_of k)) (are i))
+      (λ i. kept_after ignores i ++ map (λ k. unnumbered (empty_of k)) (are i))
       ∙ ap (λ os. numbered first (built_in_definitions ++ texts) ++ map (λ k. unnumbered (empty_of k)) (first_kinds os)) (sym (same_orphans ignores ds))
-      ∙ types_behind first texts in
+      ∙ types_after first texts in
       ap (λ l. l ++ map unnumbered (adopted_schema (definitions_of l))) types
-      ∙ schema_behind first (with_types built_in_definitions texts)
+      ∙ schema_after first (with_types built_in_definitions texts)
 
   pub settled_is : (s : Settings) → settled_from s (numbered first ds) waiting (map unnumbered built_in_definitions) ≡ numbered first (built_in_definitions ++ settled built_in_definitions s ds)
   settled_is s = settled_by s.adopts s.ignores
 
 -- ---- the texts of it
 
-adopted_behind : (adopts : Bool) (ds : Definitions) → take (length ds) (settled built_in_definitions (record { adopts = adopts; ignores = false }) ds) ≡ ds
-adopted_behind false ds = ap (take (length ds)) (sym (append-nil ds)) ∙ take_at ds [] (length ds) refl
-adopted_behind true ds =
+adopted_after : (adopts : Bool) (ds : Definitions) → take (length ds) (settled built_in_definitions (record { adopts = adopts; ignores = false }) ds) ≡ ds
+adopted_after false ds = ap (take (length ds)) (sym (append-nil ds)) ∙ take_at ds [] (length ds) refl
+adopted_after true ds =
     let types = map (empty_type built_in_definitions) (firsts parts_key (orphans built_in_definitions ds)) in
     let schema = schema_if (has_orphan_schema built_in_definitions (with_types built_in_definitions ds)) in
     ap (take (length ds)) (append_assoc ds types schema) ∙ take_at ds (types ++ schema) (length ds) refl
@@ -235,11 +235,11 @@ adopted_behind true ds =
 pub texts_first : (s : Settings) → s.ignores ≡ false → (first built_in : ℕ) (ds : Definitions) (list : List NumberedDefinition) → list ≡ numbered first (built_in_definitions ++ settled built_in_definitions s ds)
     → built_in ≡ length built_in_definitions → take (length ds) (definitions_of (drop built_in list)) ≡ ds
 texts_first s none first built_in ds list is many =
-    let behind = settled built_in_definitions s ds in
+    let following = settled built_in_definitions s ds in
     ap (take (length ds)) (sym (drop-map (λ l. l.definition) built_in list)
-    ∙ ap (drop built_in) (ap definitions_of is ∙ definitions_numbered first (built_in_definitions ++ behind)) ∙ drop_at built_in_definitions behind built_in (sym many))
+    ∙ ap (drop built_in) (ap definitions_of is ∙ definitions_numbered first (built_in_definitions ++ following)) ∙ drop_at built_in_definitions following built_in (sym many))
     ∙ ap (λ b. take (length ds) (settled built_in_definitions (record { adopts = s.adopts; ignores = b }) ds)) none
-    ∙ adopted_behind s.adopts ds
+    ∙ adopted_after s.adopts ds
 
 -- ---- its length
 

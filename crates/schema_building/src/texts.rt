@@ -44,7 +44,7 @@ impl Texts {
     /// Adds a definition after the others, with a number if it is an extension.
     fn push(&mut self, definition: &Definition) -> Result<(), BuilderRefusal>
         ensures added { OnOk result (AddsDefinitions (definition_tree definition.now ∷ []) (texts_view self.old) (texts_view self.new)) }
-        ensures behind { OnOk result (definitions self.new ≡ definitions self.old ++ definition_tree definition.now ∷ []) }
+        ensures following { OnOk result (definitions self.new ≡ definitions self.old ++ definition_tree definition.now ∷ []) }
         ensures index { self.new.index ≡ self.old.index }
         ensures refused { IfErr result (IsListRefusal (definition_tree definition.now ∷ []) (texts_view self.old)) }
     {

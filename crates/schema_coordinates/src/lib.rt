@@ -10,6 +10,7 @@
 mod coordinate;
 mod display;
 mod from_str;
+mod made;
 mod parse_error;
 mod parts;
 
@@ -17,4 +18,5 @@ pub use coordinate::{
     DirectiveArgumentCoordinate, DirectiveCoordinate, FieldArgumentCoordinate, SchemaCoordinate,
     TypeAttributeCoordinate, TypeCoordinate,
 };
+pub use made::{coordinate_of_argument, coordinate_of_attribute, coordinate_of_directive_argument};
 pub use parse_error::SchemaCoordinateParseError;

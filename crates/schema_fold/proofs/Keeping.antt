@@ -11,7 +11,7 @@ use Rattle.schema_types.proofs.in_components.Places.{each_place-push}
 use Rattle.schema_types.proofs.in_components.Firsts.{kept_seen, kept_new, is_some-firsts, has_name-firsts, firsts-push_new, firsts-push_seen}
 use Rattle.schema_fold.specs.Components.{keyed_firsts}
 use Rattle.schema_fold.specs.BuildErrors.{BuildFault}
-use Rattle.schema_fold.specs.Keeping.{told_behind, KeepsOn, KeepsNames}
+use Rattle.schema_fold.specs.Keeping.{told_after, KeepsOn, KeepsNames}
 
 module _ {X : Type 0} (key : X → List ℕ) (note : X → BuildFault) where
   abbrev made : X → List ℕ × X
@@ -20,10 +20,10 @@ module _ {X : Type 0} (key : X → List ℕ) (note : X → BuildFault) where
   abbrev entry_name : List ℕ × X → List ℕ
   entry_name w = w.0
 
-  told_seen : (before : List X) (x : X) (faults faults' : List BuildFault) → has_name key (key x) before ≡ true → faults' ≡ faults ++ note x ∷ [] → faults' ≡ faults ++ told_behind key note before x
+  told_seen : (before : List X) (x : X) (faults faults' : List BuildFault) → has_name key (key x) before ≡ true → faults' ≡ faults ++ note x ∷ [] → faults' ≡ faults ++ told_after key note before x
   told_seen before x faults faults' seen told = told ∙ ap (λ b. faults ++ map note (cond b (x ∷ []) [])) (sym seen)
 
-  told_new : (before : List X) (x : X) (faults : List BuildFault) → has_name key (key x) before ≡ false → faults ≡ faults ++ told_behind key note before x
+  told_new : (before : List X) (x : X) (faults : List BuildFault) → has_name key (key x) before ≡ false → faults ≡ faults ++ told_after key note before x
   told_new before x faults new = sym (append-nil faults) ∙ ap (λ b. faults ++ map note (cond b (x ∷ []) [])) (sym new)
 
   -- a component whose name is known, and one whose name is new
@@ -58,10 +58,10 @@ module _ {X : Type 0} (key : X → List ℕ) (note : X → BuildFault) where
         (added ∙ ap (λ l. l ++ x ∷ []) is ∙ sym (firsts-push_new key before x unseen), told_new before x faults unseen)
 
   -- a turn of the loops
-  pub told_more : (xs : List X) (x : X) (start faults faults' : List BuildFault) → faults ≡ start ++ map note (repeats key xs) → faults' ≡ faults ++ told_behind key note xs x → faults' ≡ start ++ map note (repeats key (xs ++ x ∷ []))
+  pub told_more : (xs : List X) (x : X) (start faults faults' : List BuildFault) → faults ≡ start ++ map note (repeats key xs) → faults' ≡ faults ++ told_after key note xs x → faults' ≡ start ++ map note (repeats key (xs ++ x ∷ []))
   told_more xs x start faults faults' was step =
-      step ∙ ap (λ l. l ++ told_behind key note xs x) was
-      ∙ append_assoc start (map note (repeats key xs)) (told_behind key note xs x)
+      step ∙ ap (λ l. l ++ told_after key note xs x) was
+      ∙ append_assoc start (map note (repeats key xs)) (told_after key note xs x)
       ∙ ap (λ l. start ++ l) (sym (ap (map note) (each_place-push (λ before y. if has_name key (key y) before then y ∷ [] else []) xs x) ∙ map-append note (repeats key xs) (if has_name key (key x) xs then x ∷ [] else [])))
 
   module _ (xs : List X) (x : X) (xs' : List X) (front : xs' ≡ xs ++ x ∷ []) where
@@ -80,8 +80,8 @@ module _ {X : Type 0} (key : X → List ℕ) (note : X → BuildFault) where
     names_told_on kept kept' start faults faults' is was step = told_more xs x start faults faults' was (step xs is).1 ∙ ap (λ l. start ++ map note (repeats key l)) (sym front)
 
 -- five lists after a first one
-pub behind : {F : Type 0} (a b c d e f p q r s t : List F) → b ≡ a ++ p → c ≡ b ++ q → d ≡ c ++ r → e ≡ d ++ s → f ≡ e ++ t → f ≡ a ++ (p ++ (q ++ (r ++ (s ++ t))))
-behind a b c d e f p q r s t hb hc hd he hf =
+pub following : {F : Type 0} (a b c d e f p q r s t : List F) → b ≡ a ++ p → c ≡ b ++ q → d ≡ c ++ r → e ≡ d ++ s → f ≡ e ++ t → f ≡ a ++ (p ++ (q ++ (r ++ (s ++ t))))
+following a b c d e f p q r s t hb hc hd he hf =
     hf ∙ ap (λ l. l ++ t) he ∙ append_assoc d s t
     ∙ ap (λ l. l ++ (s ++ t)) hd ∙ append_assoc c r (s ++ t)
     ∙ ap (λ l. l ++ (r ++ (s ++ t))) hc ∙ append_assoc b q (r ++ (s ++ t))

@@ -12,16 +12,16 @@ use Rattle.schema_fold.specs.declared.build_error.Repeat.{Repeat}
 
 module _ {X : Type 0} (key : X → List ℕ) (note : X → BuildFault) where
   -- the fault of x after these, if one of them has its name
-  abbrev pub told_behind : List X → X → List BuildFault
-  told_behind before x = map note (if has_name key (key x) before then x ∷ [] else [])
+  abbrev pub told_after : List X → X → List BuildFault
+  told_after before x = map note (if has_name key (key x) before then x ∷ [] else [])
 
   -- what adding x after others does: if the first of each name were kept, they still are, and the fault of x, if there is one, is told
   abbrev pub KeepsOn : X → Entries X → List BuildFault → Entries X → List BuildFault → Type 0
-  KeepsOn x kept faults kept' faults' = (before : List X) → kept ≡ keyed_firsts key before → (kept' ≡ keyed_firsts key (before ++ x ∷ [])) × (faults' ≡ faults ++ told_behind before x)
+  KeepsOn x kept faults kept' faults' = (before : List X) → kept ≡ keyed_firsts key before → (kept' ≡ keyed_firsts key (before ++ x ∷ [])) × (faults' ≡ faults ++ told_after before x)
 
   -- the same for what is kept as a set
   abbrev pub KeepsNames : X → List X → List BuildFault → List X → List BuildFault → Type 0
-  KeepsNames x kept faults kept' faults' = (before : List X) → kept ≡ firsts key before → (kept' ≡ firsts key (before ++ x ∷ [])) × (faults' ≡ faults ++ told_behind before x)
+  KeepsNames x kept faults kept' faults' = (before : List X) → kept ≡ firsts key before → (kept' ≡ firsts key (before ++ x ∷ [])) × (faults' ≡ faults ++ told_after before x)
 
 -- the name of a component, if `name` gives that of its content
 abbrev pub content_key : {A : Type 0} → (A → NameValue) → Given Place (Placed Place A) → List ℕ

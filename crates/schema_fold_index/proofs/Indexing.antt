@@ -18,7 +18,7 @@ use Rattle.schema_fold.specs.PartsView.{parts_view}
 use Rattle.schema_fold.specs.declared.parts.Parts.{Parts}
 use Rattle.schema_fold_index.specs.declared.index.Positions.{Positions}
 use Rattle.schema_fold_index.specs.Index.{StandingParts, standing_name, parts_here, standing_after, standing_in_list, positions_named, first_of, first_filed, positions_of, FiledEntries, AreFiled, FilesUnder, listed_at, defined_at, extensions_under}
-use Rattle.schema_fold_index.proofs.Under.{added_behind, added_new}
+use Rattle.schema_fold_index.proofs.Under.{added_after, added_new}
 
 -- ---- extensions by name
 
@@ -87,12 +87,12 @@ module _ (es new : FiledEntries) (position : ℕ) (p : Parts) where
   added n = if bytes_eq n own.name.it then position ∷ [] else []
 
   -- where others stand under the name, and where none does
-  pub files_behind : (v w : Positions) → lookup (test own.name.it) es ≡ Some v → w.kind ≡ v.kind → w.first ≡ v.first → w.others.items ≡ v.others.items ++ position ∷ []
+  pub files_after : (v w : Positions) → lookup (test own.name.it) es ≡ Some v → w.kind ≡ v.kind → w.first ≡ v.first → w.others.items ≡ v.others.items ++ position ∷ []
       → new ≡ set_value (test own.name.it) es w → FilesUnder position own es new
-  files_behind v w found kind first others is ss filed = (
+  files_after v w found kind first others is ss filed = (
     ap (map first_filed) is ∙ same_firsts own.name.it v w kind first es found
         ∙ kept_seen standing_name first_filed first_of (λ f. f.name.it) (λ e. refl) (λ s. refl) es ss (stands position own) filed.0 (ap is_some found),
-    λ n. added_behind positions_of es new position own.name.it v w found (λ i. first i ∷ others i) is n
+    λ n. added_after positions_of es new position own.name.it v w found (λ i. first i ∷ others i) is n
         ∙ ap (λ l. l ++ added n) (filed.1 n) ∙ sym (positions_named-push n ss (stands position own)),
   )
 
@@ -118,18 +118,18 @@ defined_here (b ∷ before) d after = defined_here before d after
 abbrev extending : Definitions → List NumberedDefinition → List StandingParts
 extending before rest = standing_after type_extension_here before (definitions_of rest)
 
-module _ (n : List ℕ) (all : List NumberedDefinition) (behind : List StandingParts) (found : List NumberedDefinition) where
+module _ (n : List ℕ) (all : List NumberedDefinition) (following : List StandingParts) (found : List NumberedDefinition) where
   -- what is found at the positions of these and of one in front of them
   abbrev Finds : Type 0
-  Finds = flat_map (listed_at all) (positions_named n behind) ≡ found
+  Finds = flat_map (listed_at all) (positions_named n following) ≡ found
 
   found_too : (place : ℕ) (l : NumberedDefinition) → slice_get all place ≡ Some l → (parts : TypeParts Place) (b : Bool) → Finds
-      → flat_map (listed_at all) (map (λ s. s.position) (cond b (stands place parts ∷ filter (λ s. bytes_eq n (standing_name s)) behind) (filter (λ s. bytes_eq n (standing_name s)) behind))) ≡ cond b (l ∷ found) found
+      → flat_map (listed_at all) (map (λ s. s.position) (cond b (stands place parts ∷ filter (λ s. bytes_eq n (standing_name s)) following) (filter (λ s. bytes_eq n (standing_name s)) following))) ≡ cond b (l ∷ found) found
   found_too place l at parts true rest = λ i. option_to_list (at i) ++ rest i
   found_too place l at parts false rest = rest
 
   found_more : (place : ℕ) (l : NumberedDefinition) → slice_get all place ≡ Some l → (o : Option (TypeParts Place)) → Finds
-      → flat_map (listed_at all) (positions_named n (map (λ parts. stands place parts) (option_to_list o) ++ behind)) ≡ cond (option_map_or (λ parts. bytes_eq n parts.name.it) o false) (l ∷ found) found
+      → flat_map (listed_at all) (positions_named n (map (λ parts. stands place parts) (option_to_list o) ++ following)) ≡ cond (option_map_or (λ parts. bytes_eq n parts.name.it) o false) (l ∷ found) found
   found_more place l at None rest = rest
   found_more place l at (Some parts) rest = found_too place l at parts (bytes_eq n parts.name.it) rest
 
@@ -160,24 +160,24 @@ first_type before t = if has_name type_name (type_name t) before then [] else t 
 abbrev places : List StandingParts → List ℕ
 places ss = map (λ s. s.position) ss
 
-module _ (all : Definitions) (behind : List StandingParts) (left : List Type_) where
+module _ (all : Definitions) (following : List StandingParts) (left : List Type_) where
   -- what is defined at the positions of the first of these, where some stand before them
   abbrev Defines : List StandingParts → List Type_ → Type 0
-  Defines ss ts = flat_map (defined_at all) (places (each_place_after first_standing ss behind)) ≡ each_place_after first_type ts left
+  Defines ss ts = flat_map (defined_at all) (places (each_place_after first_standing ss following)) ≡ each_place_after first_type ts left
 
   module _ (place : ℕ) (d : DefinitionTree Place) (at : slice_get all place ≡ Some d) where
     new_or_not : (t : Type_) → type_here d ≡ Some t → (ss : List StandingParts) (ts : List Type_) → Defines ss ts → (b : Bool)
-        → flat_map (defined_at all) (places (cond b [] (stands place t.parts ∷ []) ++ each_place_after first_standing ss behind)) ≡ cond b [] (t ∷ []) ++ each_place_after first_type ts left
+        → flat_map (defined_at all) (places (cond b [] (stands place t.parts ∷ []) ++ each_place_after first_standing ss following)) ≡ cond b [] (t ∷ []) ++ each_place_after first_type ts left
     new_or_not t is ss ts more true = more
     new_or_not t is ss ts more false = λ i. (ap (λ o. option_map_or (λ e. option_to_list (type_here e)) o []) at ∙ ap option_to_list is) i ++ more i
 
     defines_more : (o : Option Type_) → type_here d ≡ o → ((ss : List StandingParts) (ts : List Type_) → map standing_name ss ≡ map type_name ts → Defines ss ts)
         → (ss : List StandingParts) (ts : List Type_) → map standing_name ss ≡ map type_name ts
-        → flat_map (defined_at all) (places (each_place_after first_standing ss (map (λ parts. stands place parts) (option_to_list (option_map (λ t. t.parts) o)) ++ behind))) ≡ each_place_after first_type ts (option_to_list o ++ left)
+        → flat_map (defined_at all) (places (each_place_after first_standing ss (map (λ parts. stands place parts) (option_to_list (option_map (λ t. t.parts) o)) ++ following))) ≡ each_place_after first_type ts (option_to_list o ++ left)
     defines_more None is rest ss ts same = rest ss ts same
     defines_more (Some t) is rest ss ts same =
         let s = stands place t.parts in
-        ap (λ ns. flat_map (defined_at all) (places (cond (is_among (type_name t) ns) [] (s ∷ []) ++ each_place_after first_standing (ss ++ s ∷ []) behind))) same
+        ap (λ ns. flat_map (defined_at all) (places (cond (is_among (type_name t) ns) [] (s ∷ []) ++ each_place_after first_standing (ss ++ s ∷ []) following))) same
         ∙ new_or_not t is (ss ++ s ∷ []) (ts ++ t ∷ [])
         (rest (ss ++ s ∷ []) (ts ++ t ∷ []) (map-append standing_name ss (s ∷ []) ∙ ap (λ ns. ns ++ type_name t ∷ []) same ∙ sym (map-append type_name ts (t ∷ []))))
         (has_name type_name (type_name t) ts)
@@ -186,9 +186,9 @@ types_after : (before ds : Definitions) (ss : List StandingParts) (ts : List Typ
     → Defines (before ++ ds) (standing_after parts_here before ds) (types_in ds) ss ts
 types_after before [] ss ts same = refl
 types_after before (d ∷ ds) ss ts same =
-    let behind = standing_after parts_here (before ++ d ∷ []) ds in
-    defines_more (before ++ d ∷ ds) behind (types_in ds) (length before) d (defined_here before d ds) (type_here d) refl
-    (λ ss' ts' same'. subst (λ all. Defines all behind (types_in ds) ss' ts') (append_assoc before (d ∷ []) ds) (types_after (before ++ d ∷ []) ds ss' ts' same')) ss ts same
+    let following = standing_after parts_here (before ++ d ∷ []) ds in
+    defines_more (before ++ d ∷ ds) following (types_in ds) (length before) d (defined_here before d ds) (type_here d) refl
+    (λ ss' ts' same'. subst (λ all. Defines all following (types_in ds) ss' ts') (append_assoc before (d ∷ []) ds) (types_after (before ++ d ∷ []) ds ss' ts' same')) ss ts same
 
 first_places : (es : FiledEntries) → map (λ f. f.first) (values_of es) ≡ map (λ f. f.position) (map first_filed es)
 first_places [] = refl

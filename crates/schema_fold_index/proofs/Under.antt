@@ -62,8 +62,8 @@ module _ {V X : Type 0} (of : V → List X) (es new : List (NameValue × V)) (it
   AddsTo name = (n : List ℕ) → listed (lookup (test n) new) ≡ listed (lookup (test n) es) ++ (if bytes_eq n name then item ∷ [] else [])
 
   -- an item is added after those under the name
-  pub added_behind : (name : List ℕ) (v w : V) → lookup (test name) es ≡ Some v → of w ≡ of v ++ item ∷ [] → new ≡ set_value (test name) es w → AddsTo name
-  added_behind name v w found added is n = ap (λ l. listed (lookup (test n) l)) is ∙ by (bytes_eq n name) refl
+  pub added_after : (name : List ℕ) (v w : V) → lookup (test name) es ≡ Some v → of w ≡ of v ++ item ∷ [] → new ≡ set_value (test name) es w → AddsTo name
+  added_after name v w found added is n = ap (λ l. listed (lookup (test n) l)) is ∙ by (bytes_eq n name) refl
     where
       here : listed (lookup (test name) (set_value (test name) es w)) ≡ listed (lookup (test name) es) ++ item ∷ []
       here = ap listed (written_same name w es (ap is_some found)) ∙ added ∙ ap (λ o. listed o ++ item ∷ []) (sym found)
@@ -88,7 +88,7 @@ module _ {X : Type 0} (es new : List (NameValue × Vec X Global)) (item : X) whe
   items v = v.items
 
   pub under_pushed : (name : List ℕ) (v w : Vec X Global) → lookup (test name) es ≡ Some v → w.items ≡ v.items ++ item ∷ [] → new ≡ set_value (test name) es w → AddsTo items es new item name
-  under_pushed = added_behind items es new item
+  under_pushed = added_after items es new item
 
   pub under_new : (name : NameValue) (w : Vec X Global) → lookup (test name.text) es ≡ None → w.items ≡ item ∷ [] → new ≡ es ++ (name, w) ∷ [] → AddsTo items es new item name.text
   under_new = added_new items es new item

@@ -9,7 +9,7 @@ use Rattle.schema_fold.specs.in_schema_types.SchemaTree.{SchemaRoots}
 use Rattle.schema_fold.specs.Components.{all_given}
 use Rattle.schema_fold.specs.SchemaFold.{Root, root_key, root_in}
 use Rattle.schema_fold.specs.BuildErrors.{BuildFault}
-use Rattle.schema_fold.specs.Keeping.{told_behind}
+use Rattle.schema_fold.specs.Keeping.{told_after}
 use Rattle.schema_fold_roots.specs.ListFold.{Parts, directives_from, roots_from, root_fault}
 
 -- ---- collected
@@ -74,4 +74,4 @@ root_name g = record { extension = g.extension; it = g.it.it.name }
 -- what adding the root g after others does: if the first root of each operation was kept, it still is, and the fault of g, if any, is told
 abbrev pub KeepsRoot : Given Place Root → RootNames → List BuildFault → RootNames → List BuildFault → Type 0
 KeepsRoot g kept faults kept' faults' = (before : List (Given Place Root)) → kept ≡ first_roots before
-    → (kept' ≡ first_roots (before ++ g ∷ [])) × (faults' ≡ faults ++ told_behind root_key root_fault before g)
+    → (kept' ≡ first_roots (before ++ g ∷ [])) × (faults' ≡ faults ++ told_after root_key root_fault before g)

@@ -34,33 +34,33 @@ module _ (n : List ℕ) (i : ℕ) where
   more before d = length-append before (d ∷ [])
 
   -- a definition at place i or later adds none before i
-  first_behind : (place : ℕ) (o : Option (TypeDefinition Place)) (behind : List StandingParts) → i ≤ place → first_before behind ≡ false → first_before (standing_here place o ++ behind) ≡ false
-  first_behind place None behind h rest = rest
-  first_behind place (Some t) behind h rest = by (bytes_eq n (type_name t))
+  first_after : (place : ℕ) (o : Option (TypeDefinition Place)) (following : List StandingParts) → i ≤ place → first_before following ≡ false → first_before (standing_here place o ++ following) ≡ false
+  first_after place None following h rest = rest
+  first_after place (Some t) following h rest = by (bytes_eq n (type_name t))
     where
-      by : (b : Bool) → starts_before (map (λ s. s.position) (cond b (record { position = place; parts = t.parts } ∷ filter (λ s. bytes_eq n (standing_name s)) behind) (filter (λ s. bytes_eq n (standing_name s)) behind))) ≡ false
+      by : (b : Bool) → starts_before (map (λ s. s.position) (cond b (record { position = place; parts = t.parts } ∷ filter (λ s. bytes_eq n (standing_name s)) following) (filter (λ s. bytes_eq n (standing_name s)) following))) ≡ false
       by true = le-ltb place i h
       by false = rest
 
-  none_behind : (before ds : Definitions) → i ≤ length before → first_before (standing_after parts_here before ds) ≡ false
-  none_behind before [] h = refl
-  none_behind before (d ∷ ds) h =
+  none_following : (before ds : Definitions) → i ≤ length before → first_before (standing_after parts_here before ds) ≡ false
+  none_following before [] h = refl
+  none_following before (d ∷ ds) h =
       let m = more before d in
-      first_behind (length before) (type_here d) (standing_after parts_here (before ++ d ∷ []) ds) h (none_behind (before ++ d ∷ []) ds (omega (arith, m, h)))
+      first_after (length before) (type_here d) (standing_after parts_here (before ++ d ∷ []) ds) h (none_following (before ++ d ∷ []) ds (omega (arith, m, h)))
 
   -- one that stands before it, if it is of the name
-  first_here : (place : ℕ) (o : Option (TypeDefinition Place)) (behind : List StandingParts) (ts : List (TypeDefinition Place)) → place + 1 ≤ i → first_before behind ≡ has_name type_name n ts
-      → first_before (standing_here place o ++ behind) ≡ has_name type_name n (option_to_list o ++ ts)
-  first_here place None behind ts h rest = rest
-  first_here place (Some t) behind ts h rest = by (bytes_eq n (type_name t))
+  first_here : (place : ℕ) (o : Option (TypeDefinition Place)) (following : List StandingParts) (ts : List (TypeDefinition Place)) → place + 1 ≤ i → first_before following ≡ has_name type_name n ts
+      → first_before (standing_here place o ++ following) ≡ has_name type_name n (option_to_list o ++ ts)
+  first_here place None following ts h rest = rest
+  first_here place (Some t) following ts h rest = by (bytes_eq n (type_name t))
     where
-      by : (b : Bool) → starts_before (map (λ s. s.position) (cond b (record { position = place; parts = t.parts } ∷ filter (λ s. bytes_eq n (standing_name s)) behind) (filter (λ s. bytes_eq n (standing_name s)) behind)))
+      by : (b : Bool) → starts_before (map (λ s. s.position) (cond b (record { position = place; parts = t.parts } ∷ filter (λ s. bytes_eq n (standing_name s)) following) (filter (λ s. bytes_eq n (standing_name s)) following)))
           ≡ (b || has_name type_name n ts)
       by true = lt-ltb place i (omega (arith, h))
       by false = rest
 
   stands_after : (before ds : Definitions) (k : ℕ) → length before + k ≡ i → first_before (standing_after parts_here before ds) ≡ has_name type_name n (types_in (take k ds))
-  stands_after before ds zero e = none_behind before ds (omega (arith, e))
+  stands_after before ds zero e = none_following before ds (omega (arith, e))
   stands_after before [] (suc k) e = refl
   stands_after before (d ∷ ds) (suc k) e =
       let m = more before d in

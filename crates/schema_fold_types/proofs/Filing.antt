@@ -90,15 +90,15 @@ module _ (t : TypeDefinition Place) where
     told_enough = ap faults_given given
 
   module _ (front list : List NumberedDefinition) (none : ExtendsNone front) where
-    given_behind : flat_map (extension_here t.parts) list ≡ flat_map (extension_here t.parts) (front ++ list)
-    given_behind = sym (flat_map-append (extension_here t.parts) front list ∙ ap (λ l. l ++ flat_map (extension_here t.parts) list) (none_given t.parts front none))
+    given_after : flat_map (extension_here t.parts) list ≡ flat_map (extension_here t.parts) (front ++ list)
+    given_after = sym (flat_map-append (extension_here t.parts) front list ∙ ap (λ l. l ++ flat_map (extension_here t.parts) list) (none_given t.parts front none))
 
     -- with what extends nothing in front of the list the same
-    pub type_behind : folded_type list t ≡ folded_type (front ++ list) t
-    type_behind = ap type_given given_behind
+    pub node_of_type : folded_type list t ≡ folded_type (front ++ list) t
+    node_of_type = ap type_given given_after
 
-    pub told_behind : faults_of_type list t ≡ faults_of_type (front ++ list) t
-    told_behind = ap faults_given given_behind
+    pub told_after : faults_of_type list t ≡ faults_of_type (front ++ list) t
+    told_after = ap faults_given given_after
 
 module _ (extensions : List ℕ → List NumberedDefinition) (list : List NumberedDefinition) (is : (n : List ℕ) → extensions n ≡ extensions_named n list) where
   -- the same types and faults as with the whole list

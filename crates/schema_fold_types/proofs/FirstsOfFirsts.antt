@@ -70,10 +70,10 @@ module _ {X : Type 0} (key : X → List ℕ) where
           rest p (q ++ x ∷ []) (same_seen p q x same here) (all_seen p c x all seen) ∙ ap (λ b. cond b [] (x ∷ []) ++ kept_from (q ++ x ∷ []) xs) (sym here)
       by false e rest = λ i. cond (same (key x) i) [] (x ∷ []) ++ rest (p ++ x ∷ []) (q ++ x ∷ []) (same_more p q x same) (all_more p c x all) i
 
-  kept_behind : (before xs ys : List X) → kept_from before (xs ++ firsts key ys) ≡ kept_from before (xs ++ ys)
-  kept_behind before [] ys = kept_again before [] before ys (λ n. refl) (λ n h. absurd cc)
-  kept_behind before (x ∷ xs) ys = ap (λ l. first_here before x ++ l) (kept_behind (before ++ x ∷ []) xs ys)
+  kept_after : (before xs ys : List X) → kept_from before (xs ++ firsts key ys) ≡ kept_from before (xs ++ ys)
+  kept_after before [] ys = kept_again before [] before ys (λ n. refl) (λ n h. absurd cc)
+  kept_after before (x ∷ xs) ys = ap (λ l. first_here before x ++ l) (kept_after (before ++ x ∷ []) xs ys)
 
   -- the same as among all
   pub firsts_of_firsts : (xs ys : List X) → firsts key (xs ++ firsts key ys) ≡ firsts key (xs ++ ys)
-  firsts_of_firsts xs ys = kept_behind [] xs ys
+  firsts_of_firsts xs ys = kept_after [] xs ys

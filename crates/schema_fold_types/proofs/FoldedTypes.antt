@@ -16,7 +16,7 @@ use Rattle.schema_fold_index.proofs.Listing.{definitions_numbered}
 use Rattle.schema_fold_types.proofs.Telling.{told_more}
 use Rattle.schema_fold_types.proofs.TypeFaults.{types_tell}
 use Rattle.schema_fold_types.specs.ListTypes.{types_from, faults_from, ExtendsNone, FoldsTypes, TellsTypes}
-use Rattle.schema_fold_types.proofs.Filing.{type_behind, told_behind}
+use Rattle.schema_fold_types.proofs.Filing.{node_of_type, told_after}
 
 -- the types and faults of a whole list
 abbrev types_of : List NumberedDefinition → Entries (SchemaType Place)
@@ -37,10 +37,10 @@ module _ (built_in texts : List NumberedDefinition) (none : ExtendsNone built_in
       sym (ap types_in (map-append (λ l. l.definition) built_in texts) ∙ flat_map-append (λ d. option_to_list (type_here d)) (definitions_of built_in) (definitions_of texts))
 
   whole_types : types_from built_in texts ≡ types_of (built_in ++ texts)
-  whole_types = λ i. map (λ t. (type_name t, type_behind t built_in texts none i)) (firsts type_name (types_joined i))
+  whole_types = λ i. map (λ t. (type_name t, node_of_type t built_in texts none i)) (firsts type_name (types_joined i))
 
   whole_faults : faults_from built_in texts ≡ faults_of (built_in ++ texts)
-  whole_faults = λ i. flat_map (λ t. told_behind t built_in texts none i) (firsts type_name (types_joined i))
+  whole_faults = λ i. flat_map (λ t. told_after t built_in texts none i) (firsts type_name (types_joined i))
 
 pub folds_types : (built_in texts : List NumberedDefinition) (types : Entries (SchemaType Place)) → types ≡ types_from built_in texts → FoldsTypes built_in texts types
 folds_types built_in texts types is none first ds e = is ∙ whole_types built_in texts none ∙ ap types_of e ∙ types_numbered first ds

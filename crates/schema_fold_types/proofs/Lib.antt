@@ -11,7 +11,7 @@ pub mod OwnNames
 pub mod Lookups
 pub mod FailsIs
 pub mod Seeing
-pub mod Behind
+pub mod After
 pub mod Judging
 pub mod TellingMisplaced
 pub mod Turns

@@ -126,8 +126,8 @@ module _ (built_in : DefinedKinds) (defined : List ℕ → Bool) where
   type_faults place n = faults_where place (repeat_told n) ++ faults_where place (redefinition_told built_in n)
 
 -- the faults of a definition, given whether a schema definition comes before it and which type names are defined before it
-abbrev pub faults_behind : DefinedKinds → Bool → (List ℕ → Bool) → DefinitionTree Place → List BuildFault
-faults_behind built_in schema defined d =
+abbrev pub definition_faults_after : DefinedKinds → Bool → (List ℕ → Bool) → DefinitionTree Place → List BuildFault
+definition_faults_after built_in schema defined d =
     faults_at d (executable_told d) ++ (faults_at d (told_where (schema && is_some (schema_here d)) SchemaDefinitionCollision)
     ++ (faults_at d (option_map_or (λ t. repeat_told built_in defined (type_name t)) (type_here d) None) ++ faults_at d (scalar_redefinition_told built_in d)))
 

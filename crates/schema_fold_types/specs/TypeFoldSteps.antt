@@ -20,7 +20,7 @@ use Rattle.schema_fold_index.specs.Index.{extensions_under, defined_at}
 use Rattle.schema_fold_index.specs.declared.index.Positions.{Positions}
 use Rattle.schema_fold_types.specs.Filing.{FoldsOn}
 use Rattle.schema_fold_types.specs.TextDefinitionsView.{is_defined_before}
-use Rattle.schema_fold_types.specs.DefinedKinds.{DefinedKinds, faults_behind, extension_faults, type_extension_faults}
+use Rattle.schema_fold_types.specs.DefinedKinds.{DefinedKinds, definition_faults_after, extension_faults, type_extension_faults}
 use Rattle.schema_fold_types.specs.declared.collisions.Before.{Before}
 use Rattle.schema_fold_types.specs.declared.types.Extended.{Extended}
 
@@ -38,7 +38,7 @@ definitions_listed list = definitions_of (map listed_view list)
 
 -- the faults of a definition, given those before it
 abbrev pub faults_after : DefinedKinds → Before → DefinitionTree Place → List BuildFault
-faults_after built_in before d = faults_behind built_in before.schema (is_defined_before before) d
+faults_after built_in before d = definition_faults_after built_in before.schema (is_defined_before before) d
 
 -- the faults of an extension of a type at that place
 abbrev pub faults_of_extension : DefinedKinds → DefinedKinds → Place → Parts → List BuildFault

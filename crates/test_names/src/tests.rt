@@ -215,7 +215,11 @@ fn orders_names(rt: HostRuntime) {
     let is_so = (name!("b").cmp(&long) == Ordering::Greater)
         & (short.cmp(&long) == Ordering::Less)
         & (short != name!("A"));
-    hold(&rt, is_so, "b is behind aa, a is before aa, case matters");
+    hold(
+        &rt,
+        is_so,
+        "b is following aa, a is before aa, case matters",
+    );
 }
 
 /// The node has this value.

@@ -25,8 +25,8 @@ abbrev pub is_described : {P : Type 0} → Placed P (InputValueTree P) → Bool
 is_described v = is_some v.it.description
 
 -- whether argument definitions are printed one on each line, if the layout has lines: exactly when one of them has a description
-abbrev pub stand_on_lines : {P : Type 0} → InputValues P → Bool
-stand_on_lines vs = list_any is_described vs
+abbrev pub are_on_lines : {P : Type 0} → InputValues P → Bool
+are_on_lines vs = list_any is_described vs
 
 -- (arguments) on one line
 abbrev pub arguments_in_line : {P : Type 0} → Prefix → InputValues P → ℕ → List ℕ
@@ -39,7 +39,7 @@ arguments_on_lines prefix vs level =
 
 abbrev pub argument_definitions_text : {P : Type 0} → Prefix → InputValues P → ℕ → List ℕ
 argument_definitions_text None vs level = arguments_in_line None vs level
-argument_definitions_text (Some prefix) vs level = if stand_on_lines vs then arguments_on_lines prefix vs level else arguments_in_line (Some prefix) vs level
+argument_definitions_text (Some prefix) vs level = if are_on_lines vs then arguments_on_lines prefix vs level else arguments_in_line (Some prefix) vs level
 
 abbrev pub repeatable_text : Bool → List ℕ
 repeatable_text true = codes " repeatable"

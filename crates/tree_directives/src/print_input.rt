@@ -5,7 +5,7 @@ ghost use Rattle.tree_literals.specs.in_names.Placed.{Place};
 ghost use Rattle.tree_directives.specs.DirectiveTree.{input_value_tree, input_value_trees, directive_definition_tree};
 ghost use Rattle.tree_literals.specs.Joined.{joined, after, further_text};
 ghost use Rattle.tree_literals.specs.Levels.{level_depth};
-ghost use Rattle.tree_directives.specs.InputLayout.{input_value_text, input_members_text, stand_on_lines, arguments_in_line, arguments_on_lines, argument_definitions_text, repeatable_text, locations_text, directive_definition_text};
+ghost use Rattle.tree_directives.specs.InputLayout.{input_value_text, input_members_text, are_on_lines, arguments_in_line, arguments_on_lines, argument_definitions_text, repeatable_text, locations_text, directive_definition_text};
 ghost use Rattle.tree_directives.specs.DirectivePlaces.{location_keyword};
 ghost use Rattle.tree_directives.specs.Printed.{further_inputs_text, input_member_text, undescribed_text};
 
@@ -32,8 +32,8 @@ pub fn put_input_value<S: Sink>(
 }
 
 // A description is on a line of its own: if any argument has one, each argument takes a line.
-fn stand_on_lines(arguments: &[Node<InputValueDefinition>]) -> bool
-    ensures { result ≡ stand_on_lines (input_value_trees arguments.now) }
+fn are_on_lines(arguments: &[Node<InputValueDefinition>]) -> bool
+    ensures { result ≡ are_on_lines (input_value_trees arguments.now) }
 {
     for argument in arguments {
         if argument.content().description.is_some() {
@@ -139,7 +139,7 @@ pub fn put_argument_definitions<S: Sink>(
     match prefix {
         None => put_arguments_in_line(sink, None, level, arguments),
         Some(prefix) => {
-            if stand_on_lines(arguments) {
+            if are_on_lines(arguments) {
                 put_arguments_on_lines(sink, prefix, level, arguments);
             } else {
                 put_arguments_in_line(sink, Some(prefix), level, arguments);

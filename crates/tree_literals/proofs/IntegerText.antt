@@ -60,8 +60,8 @@ numeral-int (c ∷ cs) h = by (c == 45) refl
 
     by : (b : Bool) → (c == 45) ≡ b → IsNumeral 10 (without_leading_sign (c ∷ cs))
     by true e =
-        let behind : is_natural cs ≡ true = ap (λ b. is_natural (cond b cs (c ∷ cs))) (sym e) ∙ h in
-        subst (IsNumeral 10) (sym (ap (λ b. cond b cs (drop (cond (c == 43) 1 0) (c ∷ cs))) e)) (numeral-digits cs (digits cs behind))
+        let following : is_natural cs ≡ true = ap (λ b. is_natural (cond b cs (c ∷ cs))) (sym e) ∙ h in
+        subst (IsNumeral 10) (sym (ap (λ b. cond b cs (drop (cond (c == 43) 1 0) (c ∷ cs))) e)) (numeral-digits cs (digits cs following))
     by false e =
         let whole : is_natural (c ∷ cs) ≡ true = ap (λ b. is_natural (cond b cs (c ∷ cs))) (sym e) ∙ h in
         subst (IsNumeral 10) (sym (sign-digits (c ∷ cs) (digits (c ∷ cs) whole))) (numeral-digits (c ∷ cs) (digits (c ∷ cs) whole))

@@ -126,18 +126,18 @@ none_at (b ∷ bytes) k h below = go (must_escape b) refl h k below (λ j none l
 pub sixteen_more : (bytes : List ℕ) (n : ℕ) → n + 16 ≤ length bytes → ((k : ℕ) → k < n → must_escape (get_or bytes k 0) ≡ false)
     → list_any must_escape (slice_range bytes n (n + 16)) ≡ false → (k : ℕ) → k < n + 16 → must_escape (get_or bytes k 0) ≡ false
 sixteen_more bytes n within front next k below = elim (cases_order k n) [
-  | inl is ↦ behind (omega arith)
+  | inl is ↦ following (omega arith)
   | inr h ↦ elim h [
     | inl less ↦ front k less
-    | inr more ↦ behind (omega arith)
+    | inr more ↦ following (omega arith)
   ]
 ]
   where
     run : List ℕ
     run = slice_range bytes n (n + 16)
 
-    behind : n ≤ k → must_escape (get_or bytes k 0) ≡ false
-    behind from =
+    following : n ≤ k → must_escape (get_or bytes k 0) ≡ false
+    following from =
         let long : length (drop n bytes) ≡ length bytes - n = length-drop n bytes in
         let room : (n + 16) - n ≤ length (drop n bytes) = omega arith in
         let size : length run ≡ (n + 16) - n = length-take-le ((n + 16) - n) (drop n bytes) room in

@@ -35,7 +35,7 @@ use Rattle.graphql_faults.proofs.in_document_rule_definitions.Levels.{reached_in
 use Rattle.graphql_faults.proofs.in_document_rule_definitions.MergingFacts.{IsReachedField, closed_within, merge_if_all_agree}
 use Rattle.graphql_faults.proofs.in_document_rule_definitions.RowWords.{of_present, not_present, not_at_index, none_repeats, none_reached, no_fragment, of_each}
 use Rattle.verdict_definitions.specs.Texts.{IsWithin}
-use Rattle.verdict_definitions.specs.Meaning.{schema_at_hand, document_over}
+use Rattle.verdict_definitions.specs.Meaning.{document_schema, document_over}
 use Rattle.verdict_definitions.specs.Judge.{JudgeDocument, IsDocumentAccepted, PassesNoDocumentBound}
 use Rattle.verdict_definitions.proofs.RowReading.{reader, is_within}
 use Rattle.verdict_definitions.proofs.RowTrees.{terms}
@@ -43,7 +43,7 @@ use Rattle.verdict_definitions.proofs.RowMeanings.{meanings_found, same_meanings
 use Rattle.verdict_definitions.proofs.TextRows.{query_field_tree, just_field, just_field_tree, just_field_reads}
 
 abbrev pub field_schema : SchemaTree Place
-field_schema = schema_at_hand terms (query_field_tree ∷ [])
+field_schema = document_schema terms (query_field_tree ∷ [])
 
 -- ---- every rule of typing holds
 

@@ -17,14 +17,14 @@ use Rattle.rule_definitions.proofs.Lists.{not_in_nil}
 use Rattle.graphql_faults.specs.in_document_rule_definitions.DocumentFaults.{OfData, OfDocument, broken}
 use Rattle.graphql_faults.specs.in_document_rule_definitions.Selected.{Standing, StandingField, InOperation, SelectionAt}
 use Rattle.graphql_faults.specs.in_document_rule_definitions.Reached.{first}
-use Rattle.graphql_faults.specs.in_document_rule_definitions.UsedVariables.{IsUsedIn, StandsInSelection}
+use Rattle.graphql_faults.specs.in_document_rule_definitions.UsedVariables.{IsUsedIn, IsInSelection}
 use Rattle.graphql_faults.specs.in_document_rule_definitions.Merging.{SameName, telling}
 use Rattle.graphql_faults.specs.in_document_rule_definitions.PlacedDocumentFaults.{PlacedDocumentFault, DocumentFails, DocumentMergingFails}
 use Rattle.graphql_faults.proofs.in_document_rule_definitions.RowWords.{of_present, not_at_index, none_reached, no_fragment}
 use Rattle.graphql_faults.specs.in_document_errors.DocumentBreaches.{ConflictingFieldName}
 use Rattle.graphql_faults.specs.DetailsTree.{of_document}
 use Rattle.verdict_definitions.specs.Texts.{SourceText, Tree, ReadsText}
-use Rattle.verdict_definitions.specs.Meaning.{schema_at_hand, document_over}
+use Rattle.verdict_definitions.specs.Meaning.{document_schema, document_over}
 use Rattle.verdict_definitions.specs.Judge.{IsAccepted}
 use Rattle.verdict_definitions.specs.Says.{SaysDocument}
 use Rattle.verdict_definitions.proofs.RowReading.{reader, reads}
@@ -56,7 +56,7 @@ unfolding reader
 unused_reads = reads 500 2 unused unused_tree refl
 
 abbrev pub field_schema : SchemaTree Place
-field_schema = schema_at_hand terms (query_field_tree ∷ [])
+field_schema = document_schema terms (query_field_tree ∷ [])
 
 abbrev pub unused_document : MeantDocument Place
 unused_document = kept_document (meanings_found field_schema) unused_tree
@@ -77,7 +77,7 @@ field_there = record { position = SelectionAt (InOperation (Some (codes "Q"))) 0
 abbrev field_standing : Standing Place
 field_standing = record { position = SelectionAt (InOperation (Some (codes "Q"))) 0; parent = codes "Query"; it = MeantField (place_in 2 19 24) (int_field (codes "field")) field_head (meant_set (codes "Int") no_meant) }
 
-not_in_field : StandsInSelection (codes "v") field_standing → ⊥
+not_in_field : IsInSelection (codes "v") field_standing → ⊥
 not_in_field (inl h) = not_at_index h
 not_in_field (inr h) = not_at_index (of_present field_there h)
 
@@ -166,7 +166,7 @@ unfolding reader
 conflict_reads = reads 500 2 conflict conflict_tree refl
 
 abbrev pub a_and_b_schema : SchemaTree Place
-a_and_b_schema = schema_at_hand terms (a_and_b_tree ∷ [])
+a_and_b_schema = document_schema terms (a_and_b_tree ∷ [])
 
 abbrev pub conflict_operation : MeantOperation Place
 conflict_operation = meant_operation (meanings_found a_and_b_schema) (record { place = place_in 2 0 13; base = codes "Query"; it = conflict_query })

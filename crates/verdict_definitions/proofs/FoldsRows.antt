@@ -28,9 +28,9 @@ use Rattle.verdict_definitions.proofs.TextRows.{query_field, query_field_tree}
 -- ---- lists of one, and repeats
 
 module _ {X : Type 0} (x : X) where
-  not_behind : (zs after : List X) (y : X) → [] ≡ zs ++ y ∷ after → ⊥
-  not_behind [] after y e = cc
-  not_behind (z ∷ zs) after y e = cc
+  not_after : (zs after : List X) (y : X) → [] ≡ zs ++ y ∷ after → ⊥
+  not_after [] after y e = cc
+  not_after (z ∷ zs) after y e = cc
 
   abbrev tail : List X → List X
   tail [] = []
@@ -39,7 +39,7 @@ module _ {X : Type 0} (x : X) where
   -- what is in a list of one
   at_one : (P : List X → X → Type 0) → AtSomePlace P (x ∷ []) → P [] x
   at_one P ([], (y, ((after, e), p))) = let same : x ≡ y = cc in subst (P []) (sym same) p
-  at_one P (z ∷ zs, (y, ((after, e), p))) = absurd (not_behind zs after y (ap tail e))
+  at_one P (z ∷ zs, (y, ((after, e), p))) = absurd (not_after zs after y (ap tail e))
 
 -- what is repeated is among the repeats
 is_among_repeats : {X : Type 0} (name : X → List ℕ) (xs : List X) (x : X) → IsRepeated name xs x → Contains (repeats name xs) x

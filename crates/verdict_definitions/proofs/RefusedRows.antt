@@ -18,7 +18,7 @@ use Rattle.rule_definitions.specs.Rules.{Breaks}
 use Rattle.graphql_faults.specs.DetailsTree.{of_rule, of_folding, of_typing}
 use Rattle.document_typing.specs.TypingFaults as typing
 use Rattle.verdict_definitions.specs.Texts.{SourceText, Tree, ReadsText}
-use Rattle.verdict_definitions.specs.Meaning.{schema_of, schema_at_hand}
+use Rattle.verdict_definitions.specs.Meaning.{schema_of, document_schema}
 use Rattle.verdict_definitions.specs.Judge.{IsAccepted}
 use Rattle.verdict_definitions.specs.Says.{FoldingFails, TypingFailsOver, SaysSchema, SaysDocument}
 use Rattle.verdict_definitions.proofs.RowReading.{reader, reads}
@@ -161,11 +161,11 @@ type_reads = reads 500 2 no_query type_tree refl
 abbrev type_fault : typing.TypingFault Place
 type_fault = typing.typing_fault_at (place_in 2 0 17) typing.TypeSystemDefinition
 
-type_fails : TypingFailsOver (schema_at_hand terms (query_field_tree ∷ [])) type_tree type_fault
+type_fails : TypingFailsOver (document_schema terms (query_field_tree ∷ [])) type_tree type_fault
 type_fails = typing.in_definition ([], (_, (([], refl), typing.type_system_definition (refl, refl))))
 
 type_refused : IsAccepted terms (query_field ∷ []) no_query → ⊥
 type_refused = typing_refused terms query_field no_query query_field_tree query_field_reads type_tree type_reads type_fault type_fails
 
-type_said : SaysDocument (schema_at_hand terms (query_field_tree ∷ [])) 500 2 no_query (of_typing type_fault)
+type_said : SaysDocument (document_schema terms (query_field_tree ∷ [])) 500 2 no_query (of_typing type_fault)
 type_said = inr (type_tree, (type_reads, inl (type_fault, (refl, type_fails))))

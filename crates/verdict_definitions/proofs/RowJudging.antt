@@ -15,7 +15,7 @@ use Rattle.graphql_faults.specs.in_document_rule_definitions.PlacedDocumentFault
 use Rattle.graphql_faults.specs.in_document_rule_definitions.Named.{FragmentsFoundByName}
 use Rattle.graphql_faults.proofs.in_document_rule_definitions.Verdicts.{valid_where_nothing_is_told}
 use Rattle.verdict_definitions.specs.Texts.{SourceText, Tree, Terms, DerivesIn, ReadsText, ReadsAll, PassesNumbers, document_number}
-use Rattle.verdict_definitions.specs.Meaning.{all_definitions, schema_of, schema_at_hand, meanings_over, document_over}
+use Rattle.verdict_definitions.specs.Meaning.{all_definitions, schema_of, document_schema, meanings_over, document_over}
 use Rattle.verdict_definitions.specs.Judge.{Folds, IsAccepted}
 use Rattle.verdict_definitions.specs.Says.{FoldingFails, TypingFailsOver}
 use Rattle.verdict_definitions.proofs.RowReading.{one_tree, one_list}
@@ -64,24 +64,24 @@ module _ (terms : Terms) (schema document : SourceText) (tree : Tree) (read_sche
     tree_is accepted = one_tree (document_number terms (schema ∷ [])) document document_tree accepted.over.judged.tree read_document accepted.over.judged.read
 
     -- a rule of typing is broken
-    pub typing_refused : (fault : typing.TypingFault Place) → TypingFailsOver (schema_at_hand terms (tree ∷ [])) document_tree fault → IsAccepted terms (schema ∷ []) document → ⊥
+    pub typing_refused : (fault : typing.TypingFault Place) → TypingFailsOver (document_schema terms (tree ∷ [])) document_tree fault → IsAccepted terms (schema ∷ []) document → ⊥
     typing_refused fault fails accepted =
-        subst (λ (t : Tree). TypingRules (meanings_over (schema_at_hand terms (tree ∷ []))) t) (tree_is accepted)
-        (subst (λ (ts : List Tree). TypingRules (meanings_over (schema_at_hand terms ts)) accepted.over.judged.tree) (trees_are accepted) accepted.over.judged.typed)
+        subst (λ (t : Tree). TypingRules (meanings_over (document_schema terms (tree ∷ []))) t) (tree_is accepted)
+        (subst (λ (ts : List Tree). TypingRules (meanings_over (document_schema terms ts)) accepted.over.judged.tree) (trees_are accepted) accepted.over.judged.typed)
         fault fails
 
-    valid : (accepted : IsAccepted terms (schema ∷ []) document) → IsValidDocument (schema_at_hand terms (tree ∷ [])) (document_over (schema_at_hand terms (tree ∷ [])) document_tree)
+    valid : (accepted : IsAccepted terms (schema ∷ []) document) → IsValidDocument (document_schema terms (tree ∷ [])) (document_over (document_schema terms (tree ∷ [])) document_tree)
     valid accepted =
-        subst (λ (t : Tree). IsValidDocument (schema_at_hand terms (tree ∷ [])) (document_over (schema_at_hand terms (tree ∷ [])) t)) (tree_is accepted)
-        (subst (λ (ts : List Tree). IsValidDocument (schema_at_hand terms ts) (document_over (schema_at_hand terms ts) accepted.over.judged.tree)) (trees_are accepted) accepted.over.judged.holds)
+        subst (λ (t : Tree). IsValidDocument (document_schema terms (tree ∷ [])) (document_over (document_schema terms (tree ∷ [])) t)) (tree_is accepted)
+        (subst (λ (ts : List Tree). IsValidDocument (document_schema terms ts) (document_over (document_schema terms ts) accepted.over.judged.tree)) (trees_are accepted) accepted.over.judged.holds)
 
-    module _ (are_named : FragmentsFoundByName (document_over (schema_at_hand terms (tree ∷ [])) document_tree)) (fault : PlacedDocumentFault) where
+    module _ (are_named : FragmentsFoundByName (document_over (document_schema terms (tree ∷ [])) document_tree)) (fault : PlacedDocumentFault) where
       -- a rule on documents is broken
-      pub document_refused : DocumentFails (schema_at_hand terms (tree ∷ [])) (document_over (schema_at_hand terms (tree ∷ [])) document_tree) fault → IsAccepted terms (schema ∷ []) document → ⊥
+      pub document_refused : DocumentFails (document_schema terms (tree ∷ [])) (document_over (document_schema terms (tree ∷ [])) document_tree) fault → IsAccepted terms (schema ∷ []) document → ⊥
       document_refused fails accepted =
-          (valid_where_nothing_is_told (schema_at_hand terms (tree ∷ [])) (document_over (schema_at_hand terms (tree ∷ [])) document_tree) are_named).0 (valid accepted) fault (inl fails)
+          (valid_where_nothing_is_told (document_schema terms (tree ∷ [])) (document_over (document_schema terms (tree ∷ [])) document_tree) are_named).0 (valid accepted) fault (inl fails)
 
       -- the fields do not merge
-      pub merging_refused : DocumentMergingFails (schema_at_hand terms (tree ∷ [])) (document_over (schema_at_hand terms (tree ∷ [])) document_tree) fault → IsAccepted terms (schema ∷ []) document → ⊥
+      pub merging_refused : DocumentMergingFails (document_schema terms (tree ∷ [])) (document_over (document_schema terms (tree ∷ [])) document_tree) fault → IsAccepted terms (schema ∷ []) document → ⊥
       merging_refused fails accepted =
-          (valid_where_nothing_is_told (schema_at_hand terms (tree ∷ [])) (document_over (schema_at_hand terms (tree ∷ [])) document_tree) are_named).0 (valid accepted) fault (inr fails)
+          (valid_where_nothing_is_told (document_schema terms (tree ∷ [])) (document_over (document_schema terms (tree ∷ [])) document_tree) are_named).0 (valid accepted) fault (inr fails)

@@ -2,7 +2,7 @@
 use Rattle.std.proofs.Common.{◌≡◌, ℕ, List, [], ◌∷◌, Ok, Err, Option, Some, None, refl, ap, subst, ◌∙◌}
 use Rattle.graphql_faults.specs.in_tokens.Input.{Token, Input}
 use Rattle.graphql_faults.specs.in_tokens.Bytes.{run_len}
-use Rattle.graphql_faults.specs.in_tokens.Numbers.{whole_len, digits_behind, fraction_len, exponent_len, number_at}
+use Rattle.graphql_faults.specs.in_tokens.Numbers.{whole_len, digits_after, fraction_len, exponent_len, number_at}
 use Rattle.graphql_faults.specs.in_tokens.Strings.{unicode_at, escape_at, part_len, quoted_len}
 use Rattle.graphql_faults.specs.in_tokens.Tokens.{ignored_at, string_at, token_at}
 use Rattle.graphql_faults.specs.in_tokens.Terminals.{words}
@@ -29,7 +29,7 @@ use Rattle.verdict_definitions.specs.Texts.{Tree, DerivesIn, ReadsText, ReadsAll
 
 -- what a row opens to compute its answer
 unfoldable pub reader : Unit {0}
-unfolding rest_from piece_at run_len ignored_at token_at number_at whole_len digits_behind fraction_len exponent_len string_at quoted_len part_len escape_at unicode_at words whole take many many_within some location_of v.name v.variable v.int_value v.float_value v.string_value v.boolean_value v.null_value v.enum_value v.list_value v.object_field v.object_value v.any_value v.value v.default_value v.argument v.arguments v.directive v.directives v.any_type v.type o.operation_type o.alias_and_name o.field o.fragment_name o.type_condition o.dotted o.selection o.selection_list o.selection_set o.selections o.variable_definition o.variable_definitions o.operation_definition o.fragment_definition y.directive_location y.directive_locations y.description y.root_operation_type_definition y.roots y.schema_definition y.scalar_type y.implements_interfaces y.input_value_definition y.arguments_definition y.field_definition y.fields_definition y.object_type y.interface_type y.union_member_types y.union_type y.enum_value_definition y.enum_values_definition y.enum_type y.input_fields_definition y.input_object_type y.type_definition y.directive_definition y.schema_extension d.undescribed d.type_system_definition d.extension d.type_system_extension d.definition d.document
+unfolding rest_from piece_at run_len ignored_at token_at number_at whole_len digits_after fraction_len exponent_len string_at quoted_len part_len escape_at unicode_at words whole take many many_within some location_of v.name v.variable v.int_value v.float_value v.string_value v.boolean_value v.null_value v.enum_value v.list_value v.object_field v.object_value v.any_value v.value v.default_value v.argument v.arguments v.directive v.directives v.any_type v.type o.operation_type o.alias_and_name o.field o.fragment_name o.type_condition o.dotted o.selection o.selection_list o.selection_set o.selections o.variable_definition o.variable_definitions o.operation_definition o.fragment_definition y.directive_location y.directive_locations y.description y.root_operation_type_definition y.roots y.schema_definition y.scalar_type y.implements_interfaces y.input_value_definition y.arguments_definition y.field_definition y.fields_definition y.object_type y.interface_type y.union_member_types y.union_type y.enum_value_definition y.enum_values_definition y.enum_type y.input_fields_definition y.input_object_type y.type_definition y.directive_definition y.schema_extension d.undescribed d.type_system_definition d.extension d.type_system_extension d.definition d.document
 reader = tt
 
 abbrev input_of : List ℕ → Input

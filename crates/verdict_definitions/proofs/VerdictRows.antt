@@ -13,7 +13,7 @@ use Rattle.schema_types.specs.SchemaTree.{SchemaTree}
 use Rattle.schema_types.specs.declared.type_kind.TypeKind.TheVariants as kind
 use Rattle.graphql_faults.specs.DetailsTree.{of_folding, of_typing}
 use Rattle.verdict_definitions.specs.Texts.{SourceText}
-use Rattle.verdict_definitions.specs.Meaning.{schema_at_hand}
+use Rattle.verdict_definitions.specs.Meaning.{document_schema}
 use Rattle.verdict_definitions.specs.Judge.{IsAccepted}
 use Rattle.verdict_definitions.specs.Says.{FoldingFails, TypingFailsOver, SaysSchema, SaysDocument}
 use Rattle.verdict_definitions.proofs.RowTrees.{terms, named, field_definition, fields_of, field}
@@ -47,7 +47,7 @@ orphan_said = inr ((orphan_query ∷ orphan_extension ∷ []) ∷ [], ((orphan_r
 -- ---- S `type Query { field: Int }`, D `{ missing }`: `UndefinedField` at 2:2
 
 abbrev pub query_field_schema : SchemaTree Place
-query_field_schema = schema_at_hand terms (query_field_tree ∷ [])
+query_field_schema = document_schema terms (query_field_tree ∷ [])
 
 abbrev pub missing_fault : typing.TypingFault Place
 missing_fault = typing.typing_fault_at (place_in 2 2 9) (typing.UndefinedField (codes "Query") (codes "missing"))

@@ -13,7 +13,7 @@ use Rattle.document_typing.specs.TypingFaults as typing
 use Rattle.graphql_faults.specs.DetailsMessages.{details_message}
 use Rattle.graphql_faults.specs.DetailsTree.{of_rule, of_folding, of_typing, of_document}
 use Rattle.verdict_definitions.specs.Texts.{SourceText, Tree, Terms, ReadsText, ReadsAll, document_number, IsWithin, AreWithin, IsRead, AreRead}
-use Rattle.verdict_definitions.specs.Meaning.{all_definitions, schema_at_hand}
+use Rattle.verdict_definitions.specs.Meaning.{all_definitions, document_schema}
 use Rattle.verdict_definitions.specs.Judge.{AreSchemasAccepted, IsAccepted}
 use Rattle.verdict_definitions.specs.Says.{AnyFault, spent, UnreadFault, FoldingFails, SchemaRuleFailsBesideCycles, TypingFailsOver, DocumentRuleFailsBeside, SaysSchema, SaysDocument}
 use Rattle.verdict_definitions.specs.Out.{Out, OutDoc, Layout, layout_text, as_lines}
@@ -73,7 +73,7 @@ pub record RefusesDocument (schema : SchemaTree Place) (nesting number : ℕ) (d
 abbrev pub Refuses : Terms → List SourceText → SourceText → List AnyFault → Type 0
 Refuses terms schemas document faults =
     RefusesSchemas terms schemas faults
-    ⊎ ((accepted : AreSchemasAccepted terms schemas) × RefusesDocument (schema_at_hand terms accepted.judged.trees) terms.nesting (document_number terms schemas) document faults)
+    ⊎ ((accepted : AreSchemasAccepted terms schemas) × RefusesDocument (document_schema terms accepted.judged.trees) terms.nesting (document_number terms schemas) document faults)
 
 -- ---- lines
 

@@ -14,7 +14,7 @@ use Rattle.document_typing.specs.TypingFaults.{TypingRules}
 use Rattle.graphql_faults.specs.in_document_rule_definitions.PlacedDocumentFaults.{IsValidDocument}
 use Rattle.graphql_faults.specs.in_document_rule_definitions.Verdict.{WithinBounds}
 use Rattle.verdict_definitions.specs.Texts.{SourceText, Tree, Terms, ReadsText, ReadsAll, document_number, IsWithin, AreWithin}
-use Rattle.verdict_definitions.specs.Meaning.{all_definitions, schema_of, schema_at_hand, meanings_over, document_over}
+use Rattle.verdict_definitions.specs.Meaning.{all_definitions, schema_of, document_schema, meanings_over, document_over}
 
 -- no folding rule is broken
 abbrev pub Folds : Terms → List Tree → Type 0
@@ -40,7 +40,7 @@ pub record JudgeDocument (schema : SchemaTree Place) (number : ℕ) (document : 
 -- The texts are read, and every rule holds of the schema and of the document over it.
 pub record Judge (terms : Terms) (schemas : List SourceText) (document : SourceText) : Type 0 where
   pub schema : JudgeSchemas terms schemas
-  pub over : JudgeDocument (schema_at_hand terms schema.trees) (document_number terms schemas) document
+  pub over : JudgeDocument (document_schema terms schema.trees) (document_number terms schemas) document
 
 -- ---- what is accepted: what the verdict accepts, within the bounds on brackets and on numbers
 
@@ -55,7 +55,7 @@ pub record IsDocumentAccepted (schema : SchemaTree Place) (nesting number : ℕ)
 
 pub record IsAccepted (terms : Terms) (schemas : List SourceText) (document : SourceText) : Type 0 where
   pub schema : AreSchemasAccepted terms schemas
-  pub over : IsDocumentAccepted (schema_at_hand terms schema.judged.trees) terms.nesting (document_number terms schemas) document
+  pub over : IsDocumentAccepted (document_schema terms schema.judged.trees) terms.nesting (document_number terms schemas) document
 
 -- ---- certain: accepted, and passing none of the bounds ReferenceBound, SpreadBound, PathBound and ChainBound
 
@@ -77,4 +77,4 @@ IsDocumentCertain schema nesting number document = (accepted : IsDocumentAccepte
 pub record IsCertain (terms : Terms) (schemas : List SourceText) (document : SourceText) : Type 0 where
   pub accepted : IsAccepted terms schemas document
   pub references : PassesNoReferenceBound (schema_of terms accepted.schema.judged.trees)
-  pub nests : PassesNoDocumentBound (schema_at_hand terms accepted.schema.judged.trees) accepted.over.judged.tree
+  pub nests : PassesNoDocumentBound (document_schema terms accepted.schema.judged.trees) accepted.over.judged.tree

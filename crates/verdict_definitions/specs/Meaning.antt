@@ -22,8 +22,8 @@ module _ (terms : Terms) (trees : List Tree) where
   schema_of = fold built_in_definitions terms.first_extension (all_definitions trees)
 
   -- the schema for documents: the one over which they are judged, without built-in scalars to which nothing refers
-  abbrev pub schema_at_hand : SchemaTree Place
-  schema_at_hand = validated schema_of
+  abbrev pub document_schema : SchemaTree Place
+  document_schema = validated schema_of
 
 -- what typing reads of a schema, and what it keeps of a document over it
 abbrev pub meanings_over : SchemaTree Place → Meanings

@@ -18,7 +18,7 @@ use Rattle.verdict_laws.specs.Adopting.{SettledIsRearranged, CutSettlesAlike}
 use Rattle.verdict_laws.proofs.Gathered.{map-filter, all_gathered}
 use Rattle.verdict_laws.proofs.Parts.{unplaced_parts, unplaced_type_definition, type_unplaced, type_extension_unplaced, extensions_in, extensions_of, extends_called, types_of, named_unplaced}
 use Rattle.verdict_laws.proofs.Roots.{defined as schema_defined}
-use Rattle.verdict_laws.proofs.RearrangedLists.{itself, rearranged_joined, rearranged_behind, types_same, extensions_same, schemas_same, schema_extensions_same, cut}
+use Rattle.verdict_laws.proofs.RearrangedLists.{itself, rearranged_joined, rearranged_after, types_same, extensions_same, schemas_same, schema_extensions_same, cut}
 use Rattle.verdict_laws.proofs.Changes.{firsts-map}
 use Rattle.verdict_laws.proofs.Written.{forgets}
 use Rattle.verdict_laws.proofs.Sorts.{Sort, IsOfName, defined, passes, no_one, passing, any-filter, rearranged_by_sorts}
@@ -146,7 +146,7 @@ module _ (built_in : Definitions) where
 
   module _ (ds es : Definitions) (r : IsRearranged ds es) where
     abbrev all_rearranged : IsRearranged (built_in ++ ds) (built_in ++ es)
-    all_rearranged = rearranged_behind built_in ds es r
+    all_rearranged = rearranged_after built_in ds es r
 
     undefined_same : (n : List ℕ) → is_undefined ds n ≡ is_undefined es n
     undefined_same n = ap (λ l. is_none (slice_get l 0)) (types_same (built_in ++ ds) (built_in ++ es) all_rearranged n)

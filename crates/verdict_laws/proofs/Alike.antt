@@ -106,8 +106,8 @@ module _ {A C : Type 0} {r s : Rule A} {u : A → C} (rr : Alike r s u) where
   pub enclosed : (opening closing : Terminal → Bool) → Alike (between opening r closing) (between opening s closing) u
   enclosed opening closing = made (λ x. x.1.0) (seq (skipped opening) (seq rr (skipped closing))) (λ x. x.1.0) (λ x. refl)
 
-  pub behind : (is : Terminal → Bool) → Alike ((λ x. x.1) <$> mark is · r) ((λ x. x.1) <$> mark is · s) u
-  behind is = made (λ x. x.1) (seq (skipped is) rr) (λ x. x.1) (λ x. refl)
+  pub following : (is : Terminal → Bool) → Alike ((λ x. x.1) <$> mark is · r) ((λ x. x.1) <$> mark is · s) u
+  following is = made (λ x. x.1) (seq (skipped is) rr) (λ x. x.1) (λ x. refl)
 
   -- each with its place, in two ways
   pub located : {P : Type 0} (m k : Meaning P) → Alike (placed m r) (placed k s) (unplaced_node u)
@@ -118,4 +118,4 @@ module _ {A C : Type 0} {r s : Rule A} {u : A → C} (rr : Alike r s u) where
   }
 
 pub separated : {A C : Type 0} {r s : Rule A} {u : A → C} (is : Terminal → Bool) → Alike r s u → Alike (g.separated is r) (g.separated is s) (map u)
-separated is rr = made (λ x. x.1.0 ∷ x.1.1) (seq (maybe (skipped is)) (seq rr (several (behind rr is)))) (λ x. x.1.0 ∷ x.1.1) (λ x. refl)
+separated is rr = made (λ x. x.1.0 ∷ x.1.1) (seq (maybe (skipped is)) (seq rr (several (following rr is)))) (λ x. x.1.0 ∷ x.1.1) (λ x. refl)

@@ -11,7 +11,7 @@ use Rattle.rule_definitions.specs.Cycles.{PassesReferenceBound}
 use Rattle.rule_definitions.specs.Laws.{AreEqual}
 use Rattle.rule_definitions.proofs.Same.{read_the_same}
 use Rattle.verdict_definitions.specs.Texts.{SourceText, Tree, Terms, ReadsText, document_number}
-use Rattle.verdict_definitions.specs.Meaning.{schema_of, schema_at_hand, document_over}
+use Rattle.verdict_definitions.specs.Meaning.{schema_of, document_schema, document_over}
 use Rattle.verdict_definitions.specs.Judge.{AreSchemasCertain, IsDocumentCertain, IsCertain, PassesNoReferenceBound, PassesNoDocumentBound}
 use Rattle.verdict_definitions.specs.Out.{Out, OutDoc, Layout, layout_text, as_lines}
 use Rattle.verdict_definitions.specs.Answer.{WritesDocument, AcceptedBytes}
@@ -49,8 +49,8 @@ module _ (terms : Terms) (layout : Layout) (first : CheckedSchemaValue) (schemas
       let one : is.accepted.judged.trees ≡ back.accepted.judged.trees =
       all_one terms.first_text (layout_text layout first.written ∷ []) is.accepted.judged.trees back.accepted.judged.trees is.accepted.judged.read back.accepted.judged.read in
       record {
-        equal = subst (λ s. AreEqual s again.schema) (sym w.is.at_hand)
-            (subst (AreEqual (schema_at_hand terms w.is.accepted.judged.trees)) (sym (is.at_hand ∙ ap (schema_at_hand terms) one)) back.at_hand);
+        equal = subst (λ s. AreEqual s again.schema) (sym w.is.for_documents)
+            (subst (AreEqual (document_schema terms w.is.accepted.judged.trees)) (sym (is.for_documents ∙ ap (document_schema terms) one)) back.for_documents);
         nesting = w.is.nesting ∙ sym is.nesting;
         written = λ l. ap (layout_text l) (is.written ∙ ap (Out terms) one) ∙ back.written l ∙ sym (ap (layout_text l) w.is.written);
       }

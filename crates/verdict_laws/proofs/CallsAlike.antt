@@ -4,7 +4,7 @@ use Rattle.std.specs.Prelude.{IfOk, IfErr}
 use Rattle.rule_definitions.specs.Laws.{AreEqual}
 use Rattle.verdict_laws.specs.Permuting.{IsPermuted}
 use Rattle.verdict_definitions.specs.Texts.{SourceText, Terms}
-use Rattle.verdict_definitions.specs.Meaning.{schema_at_hand}
+use Rattle.verdict_definitions.specs.Meaning.{document_schema}
 use Rattle.verdict_definitions.specs.Judge.{AreSchemasCertain, IsAccepted, IsCertain, IsDocumentAccepted}
 use Rattle.verdict_definitions.specs.Out.{Out, layout_text}
 use Rattle.verdict_laws.specs.Rearranged.{AreRearranged, AreCut, TextsHaveNumbers, AreAcceptedAlike}
@@ -60,8 +60,8 @@ verdicts_of_cut terms texts others same = answered terms texts others (cutting t
 
 module _ (terms : Terms) (texts others : List SourceText) (a b : CheckedSchemaValue) (is_a : IsCheckedSchemaOf terms texts a) (is_b : IsCheckedSchemaOf terms others b) where
   -- the schemas for documents, and what is written, are those of the texts
-  hands : AreEqual (schema_at_hand terms is_a.accepted.judged.trees) (schema_at_hand terms is_b.accepted.judged.trees) → AreEqual a.schema b.schema
-  hands h = subst (λ s. AreEqual s b.schema) (sym is_a.at_hand) (subst (AreEqual (schema_at_hand terms is_a.accepted.judged.trees)) (sym is_b.at_hand) h)
+  hands : AreEqual (document_schema terms is_a.accepted.judged.trees) (document_schema terms is_b.accepted.judged.trees) → AreEqual a.schema b.schema
+  hands h = subst (λ s. AreEqual s b.schema) (sym is_a.for_documents) (subst (AreEqual (document_schema terms is_a.accepted.judged.trees)) (sym is_b.for_documents) h)
 
   pub rearranged : AreRearranged terms texts others → AreRearrangedSchemas a b
   rearranged same =
@@ -69,7 +69,7 @@ module _ (terms : Terms) (texts others : List SourceText) (a b : CheckedSchemaVa
       let first = is_a.written ∙ ap (Out terms) (all_one terms.first_text texts is_a.accepted.judged.trees same.trees is_a.accepted.judged.read same.read) in
       let second = is_b.written ∙ ap (Out terms) (all_one terms.first_text others is_b.accepted.judged.trees same.other_trees is_b.accepted.judged.read same.other_read) in
       record {
-        equal = hands (law.judged.at_hand is_a.accepted.judged is_b.accepted.judged);
+        equal = hands (law.judged.for_documents is_a.accepted.judged is_b.accepted.judged);
         nesting = is_a.nesting ∙ sym is_b.nesting;
         written = subst (λ t. IsPermuted t b.written) (sym first) (subst (IsPermuted (Out terms same.trees)) (sym second) law.writes);
       }
@@ -80,7 +80,7 @@ module _ (terms : Terms) (texts others : List SourceText) (a b : CheckedSchemaVa
       let first = is_a.written ∙ ap (Out terms) (all_one terms.first_text texts is_a.accepted.judged.trees same.trees is_a.accepted.judged.read same.read) in
       let second = is_b.written ∙ ap (Out terms) (all_one terms.first_text others is_b.accepted.judged.trees same.other_trees is_b.accepted.judged.read same.other_read) in
       record {
-        equal = hands (law.judged.at_hand is_a.accepted.judged is_b.accepted.judged);
+        equal = hands (law.judged.for_documents is_a.accepted.judged is_b.accepted.judged);
         nesting = is_a.nesting ∙ sym is_b.nesting;
         written = λ layout. ap (layout_text layout) first ∙ law.texts_written layout ∙ sym (ap (layout_text layout) second);
       }

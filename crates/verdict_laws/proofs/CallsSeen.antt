@@ -43,8 +43,8 @@ in_some d None = d
 in_some d (Some x) = x
 
 -- where a writer tells what it holds, what it took comes after what it held
-put_behind : (old new : Option (List ℕ)) (held put bytes : List ℕ) → old ≡ Some held → new ≡ Some (held ++ put) → Appends old new bytes → bytes ≡ put
-put_behind old new held put bytes before after appends =
+put_after : (old new : Option (List ℕ)) (held put bytes : List ℕ) → old ≡ Some held → new ≡ Some (held ++ put) → Appends old new bytes → bytes ≡ put
+put_after old new held put bytes before after appends =
     let both : Appends (Some held) (Some (held ++ put)) bytes = subst (λ (p : Option (List ℕ) × Option (List ℕ)). Appends p.0 p.1 bytes) (λ i. (before i, after i)) appends in
     append_cancel_left held bytes put (sym both)
 
@@ -56,7 +56,7 @@ put_none old new held put before after same = append_cancel_left held put [] (ap
 module _ {R D W : Type 0} (of_schema : R → Option (List ℕ)) (of_document : D → Option (List ℕ)) (contents : W → Option (List ℕ)) (layout : Layout) (terms : Terms)
     (schemas schemas' : List (Device R)) (document document' : Device D) (old new : Device W) (run : RunValue) (seen : IsSeenRun of_schema of_document contents schemas document old new run) where
   taken : (bytes : List ℕ) → Appends (contents (device_inner old)) (contents (device_inner new)) bytes → bytes ≡ run.put
-  taken bytes = put_behind (contents (device_inner old)) (contents (device_inner new)) seen.held run.put bytes seen.before seen.after
+  taken bytes = put_after (contents (device_inner old)) (contents (device_inner new)) seen.held run.put bytes seen.before seen.after
 
   untouched : new ≡ old → run.put ≡ []
   untouched same = put_none (contents (device_inner old)) (contents (device_inner new)) seen.held run.put seen.before seen.after (ap (λ d. contents (device_inner d)) same)

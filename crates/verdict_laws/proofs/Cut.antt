@@ -29,7 +29,7 @@ use Rattle.verdict_laws.proofs.RearrangedLists.{cut, extensions_same}
 use Rattle.verdict_laws.proofs.Changes.{firsts-map, made_type, changed_given, type_made}
 use Rattle.verdict_laws.proofs.Ranks.{type_ranked}
 use Rattle.verdict_laws.proofs.Written.{forget, marked_type, marked_directive, marked_directive_name, own_directives, all_out, schema_by_ranks, out_plain}
-use Rattle.verdict_laws.proofs.ListsAlike.{schema_alike, own_marked, marked_behind}
+use Rattle.verdict_laws.proofs.ListsAlike.{schema_alike, own_marked, marked_after}
 
 -- ---- numbers
 
@@ -134,7 +134,7 @@ module _ (built_in ds es : Definitions) (same : unplaced_document ds ≡ unplace
   same_all = map-append unplaced_definition built_in ds ∙ ap (λ l. unplaced_document built_in ++ l) same ∙ sym (map-append unplaced_definition built_in es)
 
   types_marked : map marked_type (types_in (all ds)) ≡ map marked_type (types_in (all es))
-  types_marked = marked_behind marked_type type_here built_in ds es (
+  types_marked = marked_after marked_type type_here built_in ds es (
       own_marked (λ t. is_built_in t.place) unplaced_type_definition (types_in ds) hd.types
       ∙ ap (map (λ u. (false, u))) (all_gathered type_here type_here unplaced_type_definition type_unplaced ds ∙ ap (flat_map (λ d. option_to_list (type_here d))) same ∙ sym (all_gathered type_here type_here unplaced_type_definition type_unplaced es))
       ∙ sym (own_marked (λ t. is_built_in t.place) unplaced_type_definition (types_in es) he.types))
@@ -157,7 +157,7 @@ module _ (built_in ds es : Definitions) (same : unplaced_document ds ≡ unplace
   out_alike i j =
       let rearranged = cut (all ds) (all es) same_all in
       let schemas = schema_alike (all ds) (all es) rearranged in
-      let directives = marked_behind marked_directive directive_here built_in ds es own_same in
+      let directives = marked_after marked_directive directive_here built_in ds es own_same in
       let extensions = extensions_same (all ds) (all es) rearranged in
       out_plain built_in i ds
       ∙ (λ k. all_out (schemas k) (λ n. own_named n k) (directives k) (λ n. extensions n k) (types_marked k))

@@ -30,34 +30,34 @@ module _ {X : Type 0} (name : X → List ℕ) where
   abbrev Unseen : List X → X → Type 0
   Unseen before x = has_name name (name x) before ≡ false
 
-  abbrev behind : List X → List X → List X
-  behind = kept name this
+  abbrev following : List X → List X → List X
+  following = kept name this
 
   -- what is apart and unseen is kept
-  kept_apart : (before xs : List X) → Each (Unseen before) xs → AreApart name this xs → behind before xs ≡ xs
+  kept_apart : (before xs : List X) → Each (Unseen before) xs → AreApart name this xs → following before xs ≡ xs
   kept_apart before [] h a = refl
   kept_apart before (x ∷ xs) h a =
-      ap (λ b. (if b then [] else x ∷ []) ++ behind (before ++ x ∷ []) xs) h.0
+      ap (λ b. (if b then [] else x ∷ []) ++ following (before ++ x ∷ []) xs) h.0
       ∙ ap (λ l. x ∷ l) (kept_apart (before ++ x ∷ []) xs (still xs h.1 a.0) a.1)
     where
       still : (ys : List X) → Each (Unseen before) ys → Each (IsApart name this x) ys → Each (Unseen (before ++ x ∷ [])) ys
       still [] u k = tt
       still (y ∷ ys) u k = (has_name-push name (name y) before x ∙ (λ i. u.0 i || k.0.1 i), still ys u.1 k.1)
 
-  pub kept_twice : (before xs : List X) → behind before (behind before xs) ≡ behind before xs
-  kept_twice before xs = kept_apart before (behind before xs) (firsts_after name before xs).0 (firsts_after name before xs).1
+  pub kept_twice : (before xs : List X) → following before (following before xs) ≡ following before xs
+  kept_twice before xs = kept_apart before (following before xs) (firsts_after name before xs).0 (firsts_after name before xs).1
 
   -- of what stands before the names alone count
-  pub kept_same : (before before' xs : List X) → ((n : List ℕ) → has_name name n before ≡ has_name name n before') → behind before xs ≡ behind before' xs
+  pub kept_same : (before before' xs : List X) → ((n : List ℕ) → has_name name n before ≡ has_name name n before') → following before xs ≡ following before' xs
   kept_same before before' [] h = refl
   kept_same before before' (x ∷ xs) h =
       λ i. (if h (name x) i then [] else x ∷ []) ++ kept_same (before ++ x ∷ []) (before' ++ x ∷ []) xs (λ n. has_name-push name n before x ∙ (λ j. h n j || bytes_eq n (name x)) ∙ sym (has_name-push name n before' x)) i
 
   -- what has names that stand before is not kept
-  pub kept_none : (before xs : List X) → Each (λ x. has_name name (name x) before ≡ true) xs → behind before xs ≡ []
+  pub kept_none : (before xs : List X) → Each (λ x. has_name name (name x) before ≡ true) xs → following before xs ≡ []
   kept_none before [] h = refl
   kept_none before (x ∷ xs) h =
-      ap (λ b. (if b then [] else x ∷ []) ++ behind (before ++ x ∷ []) xs) h.0
+      ap (λ b. (if b then [] else x ∷ []) ++ following (before ++ x ∷ []) xs) h.0
       ∙ kept_none (before ++ x ∷ []) xs (Each-map (λ y k. has_name-push name (name y) before x ∙ ap (λ b. b || bytes_eq (name y) (name x)) k) xs h.1)
 
   abbrev named : List ℕ → X → Bool
@@ -109,7 +109,7 @@ module _ (built_in : Definitions) (first : ℕ) (texts : Definitions) (rules : F
   abbrev pub own_directives : List Directive
   own_directives = directives_in texts
 
-  kept_directives : (before rest : Definitions) → texts ≡ before ++ rest → behind directive_name (directives_in before) (directives_in rest) ≡ directives_in rest
+  kept_directives : (before rest : Definitions) → texts ≡ before ++ rest → following directive_name (directives_in before) (directives_in rest) ≡ directives_in rest
   kept_directives before [] e = refl
   kept_directives before (d ∷ rest) e = by (directive_here d) refl (kept_directives (before ++ d ∷ []) rest (e ∙ sym (append_assoc before (d ∷ []) rest)))
     where
@@ -120,12 +120,12 @@ module _ (built_in : Definitions) (first : ℕ) (texts : Definitions) (rules : F
       unseen x here true h = absurd (rules _ (directive_definition_collision (before, (d, ((rest, e), (x, (here, h, refl)))))))
       unseen x here false h = refl
 
-      by : (o : Option Directive) → directive_here d ≡ o → behind directive_name (directives_in (before ++ d ∷ [])) (directives_in rest) ≡ directives_in rest
-          → behind directive_name (directives_in before) (option_to_list o ++ directives_in rest) ≡ option_to_list o ++ directives_in rest
-      by None here h = ap (λ l. behind directive_name l (directives_in rest)) (sym (more ∙ ap (λ o. directives_in before ++ (option_to_list o ++ [])) here ∙ append-nil (directives_in before))) ∙ h
+      by : (o : Option Directive) → directive_here d ≡ o → following directive_name (directives_in (before ++ d ∷ [])) (directives_in rest) ≡ directives_in rest
+          → following directive_name (directives_in before) (option_to_list o ++ directives_in rest) ≡ option_to_list o ++ directives_in rest
+      by None here h = ap (λ l. following directive_name l (directives_in rest)) (sym (more ∙ ap (λ o. directives_in before ++ (option_to_list o ++ [])) here ∙ append-nil (directives_in before))) ∙ h
       by (Some x) here h =
-          ap (λ b. (if b then [] else x ∷ []) ++ behind directive_name (directives_in before ++ x ∷ []) (directives_in rest)) (unseen x here (has_name directive_name (directive_name x) (directives_in before)) refl)
-          ∙ ap (λ l. x ∷ l) (ap (λ l. behind directive_name l (directives_in rest)) (sym (more ∙ ap (λ o. directives_in before ++ (option_to_list o ++ [])) here)) ∙ h)
+          ap (λ b. (if b then [] else x ∷ []) ++ following directive_name (directives_in before ++ x ∷ []) (directives_in rest)) (unseen x here (has_name directive_name (directive_name x) (directives_in before)) refl)
+          ∙ ap (λ l. x ∷ l) (ap (λ l. following directive_name l (directives_in rest)) (sym (more ∙ ap (λ o. directives_in before ++ (option_to_list o ++ [])) here)) ∙ h)
 
   own_distinct : firsts directive_name own_directives ≡ own_directives
   own_distinct = kept_directives [] texts refl
@@ -237,10 +237,10 @@ module _ (built_in : Definitions) (first : ℕ) (texts : Definitions) (rules : F
 
     -- the firsts are the table's, and those of the texts that the table has not
     abbrev new_own : List Directive
-    new_own = behind directive_name table_directives own_directives
+    new_own = following directive_name table_directives own_directives
 
-    firsts_are : (xs : List Directive) → firsts directive_name (table_directives ++ xs) ≡ table_directives ++ behind directive_name table_directives xs
-    firsts_are xs = kept-append directive_name (λ x. x) [] table_directives xs ∙ ap (λ l. l ++ behind directive_name table_directives xs) table.directives_distinct
+    firsts_are : (xs : List Directive) → firsts directive_name (table_directives ++ xs) ≡ table_directives ++ following directive_name table_directives xs
+    firsts_are xs = kept-append directive_name (λ x. x) [] table_directives xs ∙ ap (λ l. l ++ following directive_name table_directives xs) table.directives_distinct
 
     -- a new one is written as it is
     abbrev IsWritten : Directive → Type 0
@@ -323,22 +323,22 @@ module _ (built_in : Definitions) (first : ℕ) (texts : Definitions) (rules : F
         by true e rest = or_true (has_name directive_name n table_directives) ∙ sym (ap (λ m. has_name directive_name m table_directives) ((bytes_eq-Decides n (directive_name x)).0 e) ∙ h.0)
         by false e rest = rest
 
-    kept_same_own : behind directive_name table_directives out_own ≡ new_own
+    kept_same_own : following directive_name table_directives out_own ≡ new_own
     kept_same_own =
-        ap (λ l. behind directive_name table_directives (flat_map (λ d. own_of (chosen d)) l)) (ap (firsts directive_name) (directives_append built_in texts) ∙ firsts_are own_directives)
-        ∙ ap (behind directive_name table_directives) (flat_map-append (λ d. own_of (chosen d)) table_directives new_own ∙ ap (λ l. redefined ++ l) new_written)
+        ap (λ l. following directive_name table_directives (flat_map (λ d. own_of (chosen d)) l)) (ap (firsts directive_name) (directives_append built_in texts) ∙ firsts_are own_directives)
+        ∙ ap (following directive_name table_directives) (flat_map-append (λ d. own_of (chosen d)) table_directives new_own ∙ ap (λ l. redefined ++ l) new_written)
         ∙ kept-append directive_name (λ x. x) table_directives redefined new_own
         ∙ (λ i. kept_none directive_name table_directives redefined redefined_named i
         ++ (kept_same directive_name (table_directives ++ redefined) table_directives new_own (λ n. has-append n table_directives redefined ∙ no_new_name n redefined redefined_named) ∙ kept_twice directive_name table_directives own_directives) i)
 
-    module _ (before behind_it : Definitions) (none_before : Each (λ d. directive_here d ≡ None) before) (none_behind : Each (λ d. directive_here d ≡ None) behind_it) where
+    module _ (before after_it : Definitions) (none_before : Each (λ d. directive_here d ≡ None) before) (none_following : Each (λ d. directive_here d ≡ None) after_it) where
       abbrev again : Definitions
-      again = before ++ (out_directives ++ behind_it)
+      again = before ++ (out_directives ++ after_it)
 
       pub again_own : directives_in again ≡ out_own
       again_own =
-          directives_append before (out_directives ++ behind_it)
-          ∙ (λ i. no_directives_in before none_before i ++ (directives_append out_directives behind_it ∙ (λ i. written_gives chosen all_firsts i ++ no_directives_in behind_it none_behind i) ∙ append-nil out_own) i)
+          directives_append before (out_directives ++ after_it)
+          ∙ (λ i. no_directives_in before none_before i ++ (directives_append out_directives after_it ∙ (λ i. written_gives chosen all_firsts i ++ no_directives_in after_it none_following i) ∙ append-nil out_own) i)
 
       pub directives_twice : folded_directives built_in again ≡ folded_directives built_in texts
       directives_twice =

@@ -21,7 +21,7 @@ use Rattle.verdict_laws.proofs.RearrangedLists.{cut}
 use Rattle.verdict_laws.proofs.Marks.{are_equal}
 use Rattle.verdict_laws.proofs.EqualAfter.{equal_after}
 use Rattle.verdict_definitions.specs.Texts.{SourceText, Tree, Terms}
-use Rattle.verdict_definitions.specs.Meaning.{all_definitions, schema_of, schema_at_hand, meanings_over, document_over}
+use Rattle.verdict_definitions.specs.Meaning.{all_definitions, schema_of, document_schema, meanings_over, document_over}
 use Rattle.verdict_definitions.specs.Judge.{AreSchemasAccepted}
 use Rattle.verdict_definitions.specs.Out.{Out, OutDoc, Layout, layout_text}
 use Rattle.verdict_laws.proofs.Schemas.{schemas}
@@ -76,8 +76,8 @@ module _ (terms next : Terms) (texts others : List SourceText) (first : terms.fi
       (are_equal built_in_definitions terms.first_extension next.first_extension out other_out (cut out other_out same) (away terms texts first a) (away next others second b))
       (turned (schema_of next b.judged.trees) (fold built_in_definitions next.first_extension other_out) other_folded))
 
-  at_hand : AreEqual (schema_at_hand terms a.judged.trees) (schema_at_hand next b.judged.trees)
-  at_hand =
+  for_documents : AreEqual (document_schema terms a.judged.trees) (document_schema next b.judged.trees)
+  for_documents =
       equal_after (schema_of terms a.judged.trees) (schema_of next b.judged.trees)
       (folds_distinct built_in_definitions terms.first_extension (all_definitions a.judged.trees)) (folds_distinct built_in_definitions next.first_extension (all_definitions b.judged.trees)) equal
 
@@ -85,7 +85,7 @@ pub equal_schema_texts : EqualSchemaTexts
 equal_schema_texts terms next texts others first second a b = record {
   texts = texts_tell (Out terms a.judged.trees) (Out next b.judged.trees) (formed terms texts first a) (formed next others second b) (schemas terms texts first a) (schemas next others second b);
   equal = equal terms next texts others first second a b;
-  at_hand = at_hand terms next texts others first second a b;
+  for_documents = for_documents terms next texts others first second a b;
 }
 
 -- ---- documents

@@ -30,7 +30,7 @@ use Rattle.verdict_laws.specs.Folding.{RearrangedFailAlike, RearrangedKeepTheRul
 use Rattle.verdict_laws.proofs.Gathered.{find-firsts}
 use Rattle.verdict_laws.proofs.Parts.{unplaced_type_definition, unplaced_parts, type_unplaced, type_extension_unplaced, types_of, extensions_of, named_unplaced, all_parts, components_seen}
 use Rattle.verdict_laws.proofs.Roots.{directive_unplaced_here, directive_unplaced, schemas_in, told, roots, defined}
-use Rattle.verdict_laws.proofs.RearrangedLists.{turned, agree_behind, rearranged_behind, types_agree, directives_agree, schemas_agree, types_same, extensions_same, schemas_same, schema_extensions_same}
+use Rattle.verdict_laws.proofs.RearrangedLists.{turned, agree_after, rearranged_after, types_agree, directives_agree, schemas_agree, types_same, extensions_same, schemas_same, schema_extensions_same}
 use Rattle.verdict_laws.proofs.Moved.{Placed_so, moved, repeated, has_name-filter, first_named}
 
 -- what is told there, as here
@@ -77,7 +77,7 @@ module _ (built_in : Definitions) (i j : ℕ) (ds es : Definitions) (r : IsRearr
   There = Fails built_in j es
 
   all : IsRearranged (built_in ++ ds) (built_in ++ es)
-  all = rearranged_behind built_in ds es r
+  all = rearranged_after built_in ds es r
 
   -- a definition of a sort, moved
   abbrev Moved : (DefinitionTree Place → Bool) → Definitions → DefinitionTree Place → Type 0
@@ -119,7 +119,7 @@ module _ (built_in : Definitions) (i j : ℕ) (ds es : Definitions) (r : IsRearr
       let names : type_name u ≡ n = ap (λ (x : TypeDefinition (Unit {0})). x.parts.name.it) same in
       let seen' : has_name type_name (type_name u) (types_in (built_in ++ p.front)) ≡ true =
       ap (λ m. has_name type_name m (types_in (built_in ++ p.front))) names ∙ has_name-filter type_name unplaced_type_definition n (types_in (built_in ++ p.front))
-      ∙ ap (λ l. is_some (slice_get l 0)) (types_agree n (built_in ++ p.front) (built_in ++ before) (agree_behind (defines_type n) built_in p.front before p.front_same))
+      ∙ ap (λ l. is_some (slice_get l 0)) (types_agree n (built_in ++ p.front) (built_in ++ before) (agree_after (defines_type n) built_in p.front before p.front_same))
       ∙ sym (has_name-filter type_name unplaced_type_definition n (types_in (built_in ++ before))) ∙ seen in
       (p.front, (p.it, (u, (p.stands, ((here', seen'), names)))))
 

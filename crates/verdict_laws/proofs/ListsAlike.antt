@@ -25,10 +25,10 @@ own_marked mark blind [] h = refl
 own_marked mark blind (x ∷ xs) h = λ i. (h.0 i, blind x) ∷ own_marked mark blind xs h.1 i
 
 -- after the same definitions
-pub marked_behind : {A M : Type 0} (marked : A → M) (here : DefinitionTree Place → Option A) (front ds es : Definitions)
+pub marked_after : {A M : Type 0} (marked : A → M) (here : DefinitionTree Place → Option A) (front ds es : Definitions)
     → map marked (flat_map (λ d. option_to_list (here d)) ds) ≡ map marked (flat_map (λ d. option_to_list (here d)) es)
     → map marked (flat_map (λ d. option_to_list (here d)) (front ++ ds)) ≡ map marked (flat_map (λ d. option_to_list (here d)) (front ++ es))
-marked_behind marked here front ds es same = split ds ∙ ap (λ l. map marked (flat_map (λ d. option_to_list (here d)) front) ++ l) same ∙ sym (split es)
+marked_after marked here front ds es same = split ds ∙ ap (λ l. map marked (flat_map (λ d. option_to_list (here d)) front) ++ l) same ∙ sym (split es)
   where
     split : (fs : Definitions) → map marked (flat_map (λ d. option_to_list (here d)) (front ++ fs)) ≡ map marked (flat_map (λ d. option_to_list (here d)) front) ++ map marked (flat_map (λ d. option_to_list (here d)) fs)
     split fs = ap (map marked) (flat_map-append (λ d. option_to_list (here d)) front fs) ∙ map-append marked (flat_map (λ d. option_to_list (here d)) front) (flat_map (λ d. option_to_list (here d)) fs)

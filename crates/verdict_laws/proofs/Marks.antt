@@ -185,8 +185,8 @@ module _ {A M : Type 0} (here : DefinitionTree Place → Option A) (mark : A →
   abbrev of_sort : Definitions → List A
   of_sort ds = filter test (flat_map (λ d. option_to_list (here d)) ds)
 
-  pub marked_named_behind : (front ds : Definitions) → map mark (of_sort (front ++ ds)) ≡ map mark (of_sort front) ++ map mark (of_sort ds)
-  marked_named_behind front ds =
+  pub marked_named_after : (front ds : Definitions) → map mark (of_sort (front ++ ds)) ≡ map mark (of_sort front) ++ map mark (of_sort ds)
+  marked_named_after front ds =
       ap (λ l. map mark (filter test l)) (flat_map-append (λ d. option_to_list (here d)) front ds)
       ∙ ap (map mark) (filter-append test (flat_map (λ d. option_to_list (here d)) front) (flat_map (λ d. option_to_list (here d)) ds))
       ∙ map-append mark (of_sort front) (of_sort ds)
@@ -213,7 +213,7 @@ module _ {A U M : Type 0} (here : DefinitionTree Place → Option A) (blind : A 
       → ((d : DefinitionTree Place) → Contains ds d → (a : A) → here d ≡ Some a → mark a ≡ unmark (blind a)) → ((d : DefinitionTree Place) → Contains es d → (a : A) → here d ≡ Some a → mark a ≡ unmark (blind a))
       → map mark (filter test (of_all (front ++ ds))) ≡ map mark (filter test (of_all (front ++ es)))
   marks_same front ds es same hd he =
-      marked_named_behind here mark test front ds ∙ ap (λ l. map mark (filter test (of_all front)) ++ l) (all_unmarked ds hd ∙ ap (map unmark) same ∙ sym (all_unmarked es he)) ∙ sym (marked_named_behind here mark test front es)
+      marked_named_after here mark test front ds ∙ ap (λ l. map mark (filter test (of_all front)) ++ l) (all_unmarked ds hd ∙ ap (map unmark) same ∙ sym (all_unmarked es he)) ∙ sym (marked_named_after here mark test front es)
 
 -- the mark of what is there, and of its argument at an index
 abbrev own_mark : Option Marks → Bool

@@ -35,8 +35,8 @@ module _ {X Y : Type 0} (f : X → Y) where
       front_same = ap (λ b. map f (cond b (x ∷ filter sort p.front) (filter sort p.front))) fails ∙ p.front_same;
     }
 
-    behind_one : (x : X) (xs : List X) (b : Y) (before : List Y) (y : Y) → sort x ≡ true → f x ≡ b → Placed_so sort xs before y → Placed_so sort (x ∷ xs) (b ∷ before) y
-    behind_one x xs b before y holds e p = record {
+    after_one : (x : X) (xs : List X) (b : Y) (before : List Y) (y : Y) → sort x ≡ true → f x ≡ b → Placed_so sort xs before y → Placed_so sort (x ∷ xs) (b ∷ before) y
+    after_one x xs b before y holds e p = record {
       front = x ∷ p.front;
       it = p.it;
       stands = (p.stands.0, ap (λ l. x ∷ l) p.stands.1);
@@ -61,7 +61,7 @@ module _ {X Y : Type 0} (f : X → Y) where
           same = head_same (f x) y (map f (filter sort xs)) after e;
           front_same = refl;
         }
-        by true holds (b ∷ before) rest e = behind_one x xs b before y holds (head_same (f x) b (map f (filter sort xs)) (before ++ y ∷ after) e) (rest before (tail_same (f x) b (map f (filter sort xs)) (before ++ y ∷ after) e))
+        by true holds (b ∷ before) rest e = after_one x xs b before y holds (head_same (f x) b (map f (filter sort xs)) (before ++ y ∷ after) e) (rest before (tail_same (f x) b (map f (filter sort xs)) (before ++ y ∷ after) e))
 
     -- in a list with the same of the sort
     pub moved : (xs ys : List X) → map f (filter sort xs) ≡ map f (filter sort ys) → (before : List X) (x : X) → StandsAfter xs before x → sort x ≡ true → Placed_so sort ys (map f (filter sort before)) (f x)

@@ -10,7 +10,7 @@ use Rattle.read_grammar.specs.Rules.{Rule}
 use Rattle.read_grammar.specs.ValueGrammar.{constant, with_variables}
 use Rattle.read_grammar.specs.OperationGrammar as g
 use Rattle.read_grammar.specs.OperationGrammar.{selections_of, field_of, spread_of, inline_of, variable_definition_of, short_of, operation_of, fragment_of}
-use Rattle.verdict_laws.proofs.Alike.{Alike, fixed, skipped, made, seq, choice, never, maybe, maybe_or, one_or_more, enclosed, behind, located}
+use Rattle.verdict_laws.proofs.Alike.{Alike, fixed, skipped, made, seq, choice, never, maybe, maybe_or, one_or_more, enclosed, following, located}
 use Rattle.verdict_laws.proofs.ValuesAlike.{named, name_alike, variable_alike, default_alike, arguments_alike, directives_alike, type_alike}
 
 selections_same : {P : Type 0} (xs : List (SelectionTree P)) → unplaced_selections (selections_of xs) ≡ selections_of (map unplaced_selection xs)
@@ -28,7 +28,7 @@ module _ {P : Type 0} (string : Token → List ℕ) (at other : ℕ → ℕ → 
   alias_alike = made (λ x. x.0) (seq (name_alike string at other) (skipped is_colon)) (λ x. x.0) (λ x. refl)
 
   condition_alike : Alike (g.type_condition m) (g.type_condition k) unplaced_text
-  condition_alike = behind (name_alike string at other) is_on
+  condition_alike = following (name_alike string at other) is_on
 
   fragment_name_alike : Alike (g.fragment_name m) (g.fragment_name k) unplaced_text
   fragment_name_alike = named string at other is_fragment_name

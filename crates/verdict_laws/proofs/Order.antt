@@ -158,8 +158,8 @@ module _ {X Y : Type 0} (name : Y → List ℕ) (tag : X → Y) where
   abbrev pub tests : List (X → ℕ) → List (X → Bool)
   tests cs = map gives cs
 
-  unseen_behind : (c : X → ℕ) (before : List Y) (xs : List X) → AreApart xs → filter (unseen (before ++ blocks c xs)) xs ≡ filter (λ x. not (gives c x)) (filter (unseen before) xs)
-  unseen_behind c before xs h =
+  unseen_after : (c : X → ℕ) (before : List Y) (xs : List X) → AreApart xs → filter (unseen (before ++ blocks c xs)) xs ≡ filter (λ x. not (gives c x)) (filter (unseen before) xs)
+  unseen_after c before xs h =
       filter_each (unseen (before ++ blocks c xs)) (λ x. cond (unseen before x) (not (gives c x)) false) xs (Each-map each xs (in_blocks c xs h))
       ∙ sym (filter_filter (λ x. not (gives c x)) (unseen before) xs)
     where
@@ -174,7 +174,7 @@ module _ {X Y : Type 0} (name : Y → List ℕ) (tag : X → Y) where
   kept_blocks [] before xs h = refl
   kept_blocks (c ∷ cs) before xs h =
       kept-append before (blocks c xs) (all_blocks cs xs)
-      ∙ (λ i. kept_block c before xs h i ++ (kept_blocks cs (before ++ blocks c xs) xs h ∙ ap (λ l. map tag (arranged (tests cs) l)) (unseen_behind c before xs h)) i)
+      ∙ (λ i. kept_block c before xs h i ++ (kept_blocks cs (before ++ blocks c xs) xs h ∙ ap (λ l. map tag (arranged (tests cs) l)) (unseen_after c before xs h)) i)
       ∙ sym (map-append tag (filter (gives c) (filter (unseen before) xs)) (arranged (tests cs) (filter (λ x. not (gives c x)) (filter (unseen before) xs))))
 
   all_unseen : (xs : List X) → filter (unseen []) xs ≡ xs

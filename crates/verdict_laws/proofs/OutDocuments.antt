@@ -14,7 +14,7 @@ use Rattle.document_typing.specs.KeptDocument.{based_operation, anonymous_here, 
 use Rattle.document_typing.specs.TypingFaults as typing
 use Rattle.document_typing.specs.TypingFaults.{TypingFault, AmbiguousAnonymousOperationAt, OperationNameCollisionAt, FragmentNameCollisionAt, DefinitionBreaks, TypingFails, TypingRules}
 use Rattle.verdict_laws.proofs.Order.{not_true}
-use Rattle.verdict_laws.proofs.Passing.{all_pass, none_passes, three_passing, three_giving, given_by_passing, none_given, StandsInEither, stands_in_either, stands_passing}
+use Rattle.verdict_laws.proofs.Passing.{all_pass, none_passes, three_passing, three_giving, given_by_passing, none_given, StandsAfterEither, stands_after_either, stands_passing}
 
 -- ---- a definition is of one sort
 
@@ -219,14 +219,14 @@ module _ {P : Type 0} (m : Meanings) (ds : List (DefinitionTree P)) where
       }
 
   stood : (before : List (DefinitionTree P)) (d : DefinitionTree P) → StandsAfter (out_doc ds) before d → Stood before d
-  stood before d at = by (stands_in_either (anonymous ds ++ named ds) (fragments ds) before d at)
+  stood before d at = by (stands_after_either (anonymous ds ++ named ds) (fragments ds) before d at)
     where
-      operation : StandsInEither (anonymous ds) (named ds) before d → Stood before d
+      operation : StandsAfterEither (anonymous ds) (named ds) before d → Stood before d
       operation (inl here) = anonymous_stood before d here
       operation (inr (front, (e, here))) = named_stood before front d e here
 
-      by : StandsInEither (anonymous ds ++ named ds) (fragments ds) before d → Stood before d
-      by (inl here) = operation (stands_in_either (anonymous ds) (named ds) before d here)
+      by : StandsAfterEither (anonymous ds ++ named ds) (fragments ds) before d → Stood before d
+      by (inl here) = operation (stands_after_either (anonymous ds) (named ds) before d here)
       by (inr (front, (e, here))) = fragment_stood before front d e here
 
   -- ---- what breaks a rule there breaks it here

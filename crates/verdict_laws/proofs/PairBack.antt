@@ -8,7 +8,7 @@ use Rattle.rule_definitions.specs.Cycles.{PassesReferenceBound}
 use Rattle.rule_definitions.specs.Laws.{AreEqual}
 use Rattle.rule_definitions.proofs.Same.{read_the_same}
 use Rattle.verdict_definitions.specs.Texts.{SourceText, Tree, Terms, ReadsText, ReadsAll, document_number, PassesNumbers}
-use Rattle.verdict_definitions.specs.Meaning.{schema_of, schema_at_hand}
+use Rattle.verdict_definitions.specs.Meaning.{schema_of, document_schema}
 use Rattle.verdict_definitions.specs.Judge.{IsAccepted, PassesNoReferenceBound, PassesNoDocumentBound, IsCertain}
 use Rattle.verdict_definitions.specs.Out.{Out, OutDoc, Layout, layout_text, as_lines}
 use Rattle.verdict_definitions.specs.Answer.{WritesSchema, WritesDocument, AcceptedBytes}
@@ -40,10 +40,10 @@ module _ (terms : Terms) (schemas : List SourceText) (document : SourceText) (ce
   references : PassesNoReferenceBound (schema_of terms accepted.schema.judged.trees)
   references = subst (λ ts. PassesNoReferenceBound (schema_of terms ts)) same_trees certain.references
 
-  nests : PassesNoDocumentBound (schema_at_hand terms accepted.schema.judged.trees) accepted.over.judged.tree
+  nests : PassesNoDocumentBound (document_schema terms accepted.schema.judged.trees) accepted.over.judged.tree
   nests =
-      subst (λ ts. PassesNoDocumentBound (schema_at_hand terms ts) accepted.over.judged.tree) same_trees
-      (subst (λ t. PassesNoDocumentBound (schema_at_hand terms certain.accepted.schema.judged.trees) t) same_tree certain.nests)
+      subst (λ ts. PassesNoDocumentBound (document_schema terms ts) accepted.over.judged.tree) same_trees
+      (subst (λ t. PassesNoDocumentBound (document_schema terms certain.accepted.schema.judged.trees) t) same_tree certain.nests)
 
 references_too : (a b : SchemaTree Place) → AreEqual a b → PassesNoReferenceBound a → PassesNoReferenceBound b
 references_too a b equal h = subst (λ (s : Judged). (fault : SchemaFault) → PassesReferenceBound s fault → ⊥) (read_the_same a b equal) h
@@ -52,8 +52,8 @@ references_back : (a b : SchemaTree Place) → AreEqual a b → PassesNoReferenc
 references_back a b equal h = subst (λ (s : Judged). (fault : SchemaFault) → PassesReferenceBound s fault → ⊥) (sym (read_the_same a b equal)) h
 
 -- after fewer texts a number is left
-behind_fewer : (count first : ℕ) → 1 ≤ count → IsNumber (count + first) → IsNumber (1 + first)
-behind_fewer count first some left = λ passed. left (by passed)
+after_fewer : (count first : ℕ) → 1 ≤ count → IsNumber (count + first) → IsNumber (1 + first)
+after_fewer count first some left = λ passed. left (by passed)
   where
     by : PassesNumbers (1 + first) → PassesNumbers (count + first)
     by passed = omega (arith, some, passed)
@@ -64,8 +64,8 @@ module _ (terms : Terms) (schemas : List SourceText) (document : SourceText) (ot
   abbrev number : ℕ
   number = document_number terms schemas
 
-  abbrev at_hand : SchemaTree Place
-  at_hand = schema_at_hand terms first.schema.judged.trees
+  abbrev for_documents : SchemaTree Place
+  for_documents = document_schema terms first.schema.judged.trees
 
   abbrev again : ℕ
   again = document_number terms (schema_written ∷ [])
@@ -74,10 +74,10 @@ module _ (terms : Terms) (schemas : List SourceText) (document : SourceText) (ot
   schema = schema_road_back terms schemas other first.schema layout plain schema_written schema_is
 
   left : IsNumber again
-  left = behind_fewer (length schemas) terms.first_text (some_text terms schemas first.schema) first.over.within.numbered
+  left = after_fewer (length schemas) terms.first_text (some_text terms schemas first.schema) first.over.within.numbered
 
-  over : DocumentLeadsBack terms.nesting at_hand (schema_at_hand terms schema.accepted.judged.trees) number again document first.over document_written
-  over = document_road_back at_hand (schema_at_hand terms schema.accepted.judged.trees) schema.at_hand terms.nesting number again left document first.over next plain_next document_written document_is
+  over : DocumentLeadsBack terms.nesting for_documents (document_schema terms schema.accepted.judged.trees) number again document first.over document_written
+  over = document_road_back for_documents (document_schema terms schema.accepted.judged.trees) schema.for_documents terms.nesting number again left document first.over next plain_next document_written document_is
 
   abbrev accepted : IsAccepted terms (schema_written ∷ []) document_written
   accepted = record { schema = schema.accepted; over = over.accepted }

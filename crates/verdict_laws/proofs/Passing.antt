@@ -60,8 +60,8 @@ module _ {X : Type 0} where
   -- ---- where something stands
 
   -- in the first of two lists, after these, or in the second, after all of the first
-  abbrev pub StandsInEither : List X → List X → List X → X → Type 0
-  StandsInEither xs ys before x = StandsAfter xs before x ⊎ ((front : List X) × ((before ≡ xs ++ front) × StandsAfter ys front x))
+  abbrev pub StandsAfterEither : List X → List X → List X → X → Type 0
+  StandsAfterEither xs ys before x = StandsAfter xs before x ⊎ ((front : List X) × ((before ≡ xs ++ front) × StandsAfter ys front x))
 
   head_same : (a b : X) (as' bs : List X) → a ∷ as' ≡ b ∷ bs → a ≡ b
   head_same a b as' bs e = cc
@@ -69,13 +69,13 @@ module _ {X : Type 0} where
   tail_same : (a b : X) (as' bs : List X) → a ∷ as' ≡ b ∷ bs → as' ≡ bs
   tail_same a b as' bs e = cc
 
-  pub stands_in_either : (xs ys before : List X) (x : X) → StandsAfter (xs ++ ys) before x → StandsInEither xs ys before x
-  stands_in_either [] ys before x at = inr (before, (refl, at))
-  stands_in_either (y ∷ xs) ys [] x (after, is) = inl (xs, ap (λ z. z ∷ xs) (head_same y x (xs ++ ys) after is))
-  stands_in_either (y ∷ xs) ys (b ∷ before) x (after, is) =
-      further (head_same y b (xs ++ ys) (before ++ x ∷ after) is) (stands_in_either xs ys before x (after, tail_same y b (xs ++ ys) (before ++ x ∷ after) is))
+  pub stands_after_either : (xs ys before : List X) (x : X) → StandsAfter (xs ++ ys) before x → StandsAfterEither xs ys before x
+  stands_after_either [] ys before x at = inr (before, (refl, at))
+  stands_after_either (y ∷ xs) ys [] x (after, is) = inl (xs, ap (λ z. z ∷ xs) (head_same y x (xs ++ ys) after is))
+  stands_after_either (y ∷ xs) ys (b ∷ before) x (after, is) =
+      further (head_same y b (xs ++ ys) (before ++ x ∷ after) is) (stands_after_either xs ys before x (after, tail_same y b (xs ++ ys) (before ++ x ∷ after) is))
     where
-      further : y ≡ b → StandsInEither xs ys before x → StandsInEither (y ∷ xs) ys (b ∷ before) x
+      further : y ≡ b → StandsAfterEither xs ys before x → StandsAfterEither (y ∷ xs) ys (b ∷ before) x
       further e (inl (rest, k)) = inl (rest, λ i. e i ∷ k i)
       further e (inr (front, (k, at))) = inr (front, (λ i. sym e i ∷ k i, at))
 

@@ -215,8 +215,8 @@ module _ (d e : DefinitionTree Place) (same : unplaced_definition d ≡ unplaced
   rest_of [] = []
   rest_of (u ∷ us) = us
 
-  agree_behind : (sort : DefinitionTree Place → Bool) (ds es : Definitions) → AgreeOn sort (d ∷ []) (e ∷ []) → AgreeOn sort (d ∷ ds) (e ∷ es) → AgreeOn sort ds es
-  agree_behind sort ds es one h = by (sort d) (sort e) (sort_same sort one) h
+  agree_after : (sort : DefinitionTree Place → Bool) (ds es : Definitions) → AgreeOn sort (d ∷ []) (e ∷ []) → AgreeOn sort (d ∷ ds) (e ∷ es) → AgreeOn sort ds es
+  agree_after sort ds es one h = by (sort d) (sort e) (sort_same sort one) h
     where
       by : (a b : Bool) → a ≡ b → unplaced_document (cond a (d ∷ filter sort ds) (filter sort ds)) ≡ unplaced_document (cond b (e ∷ filter sort es) (filter sort es)) → AgreeOn sort ds es
       by true true q h = ap rest_of h
@@ -224,13 +224,13 @@ module _ (d e : DefinitionTree Place) (same : unplaced_definition d ≡ unplaced
       by false true q h = absurd (true≢false (sym q))
       by false false q h = h
 
-  behind : (ds es : Definitions) → list_any is_executable ds ≡ list_any is_executable es → IsRearranged (d ∷ ds) (e ∷ es) → IsRearranged ds es
-  behind ds es executables r = record {
-    types = λ n. agree_behind (defines_type n) ds es (both.types n) (r.types n);
-    extensions = λ n. agree_behind (extends_type n) ds es (both.extensions n) (r.extensions n);
-    directives = λ n. agree_behind (defines_directive n) ds es (both.directives n) (r.directives n);
-    schemas = agree_behind defines_schema ds es both.schemas r.schemas;
-    schema_extensions = agree_behind is_schema_extension ds es both.schema_extensions r.schema_extensions;
+  following : (ds es : Definitions) → list_any is_executable ds ≡ list_any is_executable es → IsRearranged (d ∷ ds) (e ∷ es) → IsRearranged ds es
+  following ds es executables r = record {
+    types = λ n. agree_after (defines_type n) ds es (both.types n) (r.types n);
+    extensions = λ n. agree_after (extends_type n) ds es (both.extensions n) (r.extensions n);
+    directives = λ n. agree_after (defines_directive n) ds es (both.directives n) (r.directives n);
+    schemas = agree_after defines_schema ds es both.schemas r.schemas;
+    schema_extensions = agree_after is_schema_extension ds es both.schema_extensions r.schema_extensions;
     executables = executables;
   }
 
@@ -270,7 +270,7 @@ permuted (e ∷ es) ds none r =
     let out : IsRearranged list (p.it ∷ others) = taken p.it back p.front pass in
     let moved : IsRearranged (p.it ∷ others) (e ∷ es) = followed (p.it ∷ others) list (e ∷ es) (turned list (p.it ∷ others) out) (subst (λ l. IsRearranged l (e ∷ es)) is r) in
     let none_rest : list_any is_executable others ≡ false = (neither (is_executable p.it) (list_any is_executable others) (sym out.executables ∙ ap (list_any is_executable) (sym is) ∙ none)).1 in
-    let rest : IsRearranged others es = behind p.it e p.same others es (none_rest ∙ sym none_there.1) moved in
+    let rest : IsRearranged others es = following p.it e p.same others es (none_rest ∙ sym none_there.1) moved in
     subst (λ l. IsPermuted l (e ∷ es)) (sym is) (next p.front p.it back e es pass p.same (permuted es others none_rest rest))
 
 pub rearranged_permuted : RearrangedIsPermuted

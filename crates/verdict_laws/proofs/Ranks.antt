@@ -113,13 +113,13 @@ module _ {Q : Type 0} where
   abbrev at : (ℕ → ℕ) → Given Place Q → Given Place Q
   at f g = record { extension = option_map (λ e. record { number = f e.number; place = e.place }) g.extension; it = g.it }
 
-  behind : (base : ℕ) (x : NumberedOf Q) (xs : List (NumberedOf Q)) (k : ℕ) (ps : List (Placed Place Q)) → map (at (number_at (x.0.number + 1) xs)) (ranked k ps) ≡ map (at (number_at base (x ∷ xs))) (ranked (suc k) ps)
-  behind base x xs k [] = refl
-  behind base x xs k (p ∷ ps) = ap (λ l. record { extension = Some (record { number = number_at (x.0.number + 1) xs k; place = p.place }); it = p.it } ∷ l) (behind base x xs (suc k) ps)
+  following : (base : ℕ) (x : NumberedOf Q) (xs : List (NumberedOf Q)) (k : ℕ) (ps : List (Placed Place Q)) → map (at (number_at (x.0.number + 1) xs)) (ranked k ps) ≡ map (at (number_at base (x ∷ xs))) (ranked (suc k) ps)
+  following base x xs k [] = refl
+  following base x xs k (p ∷ ps) = ap (λ l. record { extension = Some (record { number = number_at (x.0.number + 1) xs k; place = p.place }); it = p.it } ∷ l) (following base x xs (suc k) ps)
 
   as_ranked : (base : ℕ) (xs : List (NumberedOf Q)) → map as_given xs ≡ map (at (number_at base xs)) (ranked 0 (map unnumbered xs))
   as_ranked base [] = refl
-  as_ranked base (x ∷ xs) = ap (λ l. as_given x ∷ l) (as_ranked (x.0.number + 1) xs ∙ behind base x xs 0 (map unnumbered xs))
+  as_ranked base (x ∷ xs) = ap (λ l. as_given x ∷ l) (as_ranked (x.0.number + 1) xs ∙ following base x xs 0 (map unnumbered xs))
 
 -- ---- of a list of definitions
 

@@ -87,7 +87,7 @@ no_more a b h = by (ltb b a) refl
 pub text_depth : (nesting number : ℕ) (text : SourceText) (tree : Tree) → ReadsText number text tree → IsWithin nesting number text → document_depth tree ≤ nesting
 text_depth nesting number text tree r within =
     let size : depth r.tokens ≡ document_depth tree = derived_depth (in_file (record { 0 = number })) r.tokens tree r.derived in
-    let few : depth r.tokens ≤ nesting = no_more (depth r.tokens) nesting (λ above. within.nests (record { tokens = r.tokens; behind = []; lexed = r.lexed; above = above })) in
+    let few : depth r.tokens ≤ nesting = no_more (depth r.tokens) nesting (λ above. within.nests (record { tokens = r.tokens; following = []; lexed = r.lexed; above = above })) in
     omega (arith, size, few)
 
 pub depth_append : (xs ys : Tree) → document_depth (xs ++ ys) ≡ max (document_depth xs) (document_depth ys)

@@ -152,7 +152,7 @@ rearranging settings i j texts others read other_read r =
       folds = keep_the_rules built_in_definitions i j (list_of settings texts) (list_of settings others) list;
       rules = rearranged_same_verdict built_in_definitions i j (list_of settings texts) (list_of settings others) list own other_own;
       schema = are_equal built_in_definitions i j (list_of settings texts) (list_of settings others) list own other_own;
-      at_hand = left_equal built_in_definitions i j (list_of settings texts) (list_of settings others) list own other_own;
+      for_documents = left_equal built_in_definitions i j (list_of settings texts) (list_of settings others) list own other_own;
       writes = writes_permuted built_in_definitions i j (list_of settings texts) (list_of settings others) list (is_own_list (list_of settings texts) own) (is_own_list (list_of settings others) other_own);
     }
 

@@ -41,7 +41,7 @@ use Rattle.verdict_laws.proofs.WrittenSorts.{writes_permuted}
 use Rattle.verdict_laws.proofs.Permuting.{rearranged_permuted}
 use Rattle.verdict_laws.proofs.ReadTexts.{texts_elsewhere, is_own_list}
 use Rattle.verdict_definitions.specs.Texts.{SourceText, Tree, Terms, ReadsText, ReadsAll, document_number, AreWithin}
-use Rattle.verdict_definitions.specs.Meaning.{all_definitions, schema_of, schema_at_hand}
+use Rattle.verdict_definitions.specs.Meaning.{all_definitions, schema_of, document_schema}
 use Rattle.verdict_definitions.specs.Judge.{Folds, JudgeSchemas, Judge, AreSchemasAccepted, IsAccepted, PassesNoReferenceBound, AreSchemasCertain, IsCertain}
 use Rattle.verdict_definitions.specs.Out.{Out, Layout}
 use Rattle.verdict_definitions.specs.Answer.{WritesSchema, AcceptedBytes}
@@ -173,7 +173,7 @@ deep_permuted ds es (next front d back e rest pass same more) =
 deep_text : (nesting number : ℕ) (text : SourceText) (t : Tree) → ReadsText number text t → (NestingBound nesting text → ⊥) → document_depth t ≤ nesting
 deep_text nesting number text t r within =
     let deep = derived_depth (in_file (record { 0 = number })) r.tokens t r.derived in
-    subst (λ n. n ≤ nesting) deep (no_more nesting (depth r.tokens) (λ above. within (record { tokens = r.tokens; behind = []; lexed = r.lexed; above = above })))
+    subst (λ n. n ≤ nesting) deep (no_more nesting (depth r.tokens) (λ above. within (record { tokens = r.tokens; following = []; lexed = r.lexed; above = above })))
 
 text_within : (nesting number : ℕ) (text : SourceText) (t : Tree) → ReadsText number text t → document_depth t ≤ nesting → NestingBound nesting text → ⊥
 text_within nesting number text t r le = within_all nesting text r.tokens r.lexed (subst (λ n. n ≤ nesting) (sym (derived_depth (in_file (record { 0 = number })) r.tokens t r.derived)) le)
@@ -211,8 +211,8 @@ module _ (terms : Terms) (ts us : List Tree) (own : AreAllElsewhere (all_definit
   equal_schemas : AreEqual (schema_of terms ts) (schema_of terms us)
   equal_schemas = are_equal built_in_definitions terms.first_extension terms.first_extension (all_definitions ts) (all_definitions us) same own other_own
 
-  equal_at_hand : AreEqual (schema_at_hand terms ts) (schema_at_hand terms us)
-  equal_at_hand = left_equal built_in_definitions terms.first_extension terms.first_extension (all_definitions ts) (all_definitions us) same own other_own
+  equal_for_documents : AreEqual (document_schema terms ts) (document_schema terms us)
+  equal_for_documents = left_equal built_in_definitions terms.first_extension terms.first_extension (all_definitions ts) (all_definitions us) same own other_own
 
   references_too : PassesNoReferenceBound (schema_of terms ts) → PassesNoReferenceBound (schema_of terms us)
   references_too = subst (λ (s : Judged). (fault : SchemaFault) → PassesReferenceBound s fault → ⊥) (read_the_same (schema_of terms ts) (schema_of terms us) equal_schemas)
@@ -243,8 +243,8 @@ other_way terms texts others r = record {
 -- ---- what holds of the one holds of the other
 
 module _ (terms : Terms) (texts others : List SourceText) (r : AreRearranged terms texts others) where
-  at_hand : (ts us : List Tree) → ReadsAll terms.first_text texts ts → ReadsAll terms.first_text others us → AreEqual (schema_at_hand terms ts) (schema_at_hand terms us)
-  at_hand ts us read read' = equal_at_hand terms ts us (own_of terms texts others r ts read) (other_own_of terms texts others r us read') (same_of terms texts others r ts us read read')
+  for_documents : (ts us : List Tree) → ReadsAll terms.first_text texts ts → ReadsAll terms.first_text others us → AreEqual (document_schema terms ts) (document_schema terms us)
+  for_documents ts us read read' = equal_for_documents terms ts us (own_of terms texts others r ts read) (other_own_of terms texts others r us read') (same_of terms texts others r ts us read read')
 
   abbrev schemas_too : JudgeSchemas terms texts → JudgeSchemas terms others
   schemas_too j = record {
@@ -257,7 +257,7 @@ module _ (terms : Terms) (texts others : List SourceText) (r : AreRearranged ter
   pair_too : (document : SourceText) → Judge terms texts document → Judge terms others document
   pair_too document j = record {
     schema = schemas_too j.schema;
-    over = (judged_too (schema_at_hand terms j.schema.trees) (schema_at_hand terms r.other_trees) (at_hand j.schema.trees r.other_trees j.schema.read r.other_read) (document_number terms texts) (document_number terms others) document j.over).judged;
+    over = (judged_too (document_schema terms j.schema.trees) (document_schema terms r.other_trees) (for_documents j.schema.trees r.other_trees j.schema.read r.other_read) (document_number terms texts) (document_number terms others) document j.over).judged;
   }
 
   module _ (room : TextsHaveNumbers terms others) where
@@ -283,23 +283,23 @@ module _ (terms : Terms) (texts others : List SourceText) (r : AreRearranged ter
     certain_schemas_too c = (accepted_schemas_too c.0, references c.0 c.1)
 
   module _ (left : LeaveNumber terms others) where
-    room_behind : TextsHaveNumbers terms others
-    room_behind = room_for_all terms others left
+    room_after : TextsHaveNumbers terms others
+    room_after = room_for_all terms others left
 
     abbrev accepted_pair_too : (document : SourceText) → IsAccepted terms texts document → IsAccepted terms others document
     accepted_pair_too document a = record {
-      schema = accepted_schemas_too room_behind a.schema;
-      over = accepted_too (schema_at_hand terms a.schema.judged.trees) (schema_at_hand terms r.other_trees) (at_hand a.schema.judged.trees r.other_trees a.schema.judged.read r.other_read)
+      schema = accepted_schemas_too room_after a.schema;
+      over = accepted_too (document_schema terms a.schema.judged.trees) (document_schema terms r.other_trees) (for_documents a.schema.judged.trees r.other_trees a.schema.judged.read r.other_read)
           terms.nesting (document_number terms texts) (document_number terms others) left document a.over;
     }
 
     certain_pair_too : (document : SourceText) → IsCertain terms texts document → IsCertain terms others document
     certain_pair_too document c =
-        let k = certain_too (schema_at_hand terms c.accepted.schema.judged.trees) (schema_at_hand terms r.other_trees) (at_hand c.accepted.schema.judged.trees r.other_trees c.accepted.schema.judged.read r.other_read)
+        let k = certain_too (document_schema terms c.accepted.schema.judged.trees) (document_schema terms r.other_trees) (for_documents c.accepted.schema.judged.trees r.other_trees c.accepted.schema.judged.read r.other_read)
         terms.nesting (document_number terms texts) (document_number terms others) left document (c.accepted.over, c.nests) in
         record {
-          accepted = record { schema = accepted_schemas_too room_behind c.accepted.schema; over = k.0 };
-          references = references room_behind c.accepted.schema c.references;
+          accepted = record { schema = accepted_schemas_too room_after c.accepted.schema; over = k.0 };
+          references = references room_after c.accepted.schema c.references;
           nests = k.1;
         }
 
@@ -308,7 +308,7 @@ module _ (terms : Terms) (texts others : List SourceText) (r : AreRearranged ter
 pub judged_alike : (terms : Terms) (texts others : List SourceText) → AreRearranged terms texts others → AreJudgedAlike terms texts others
 judged_alike terms texts others r = record {
   schemas = (schemas_too terms texts others r, schemas_too terms others texts (other_way terms texts others r));
-  at_hand = λ a b. at_hand terms texts others r a.trees b.trees a.read b.read;
+  for_documents = λ a b. for_documents terms texts others r a.trees b.trees a.read b.read;
   pairs = λ document. (pair_too terms texts others r document, pair_too terms others texts (other_way terms texts others r) document);
 }
 

@@ -44,11 +44,11 @@ pub itself : (ds : Definitions) → IsRearranged ds ds
 itself ds = record { types = λ n. refl; extensions = λ n. refl; directives = λ n. refl; schemas = refl; schema_extensions = refl; executables = refl }
 
 -- the same definitions in front
-pub agree_behind : (sort : DefinitionTree Place → Bool) (front ds es : Definitions) → AgreeOn sort ds es → AgreeOn sort (front ++ ds) (front ++ es)
-agree_behind sort front ds es h = agree_joined sort front front ds es refl h
+pub agree_after : (sort : DefinitionTree Place → Bool) (front ds es : Definitions) → AgreeOn sort ds es → AgreeOn sort (front ++ ds) (front ++ es)
+agree_after sort front ds es h = agree_joined sort front front ds es refl h
 
-pub rearranged_behind : (front ds es : Definitions) → IsRearranged ds es → IsRearranged (front ++ ds) (front ++ es)
-rearranged_behind front ds es r = rearranged_joined front front ds es (itself front) r
+pub rearranged_after : (front ds es : Definitions) → IsRearranged ds es → IsRearranged (front ++ ds) (front ++ es)
+rearranged_after front ds es r = rearranged_joined front front ds es (itself front) r
 
 -- ---- sorts on which lists agree
 
@@ -113,7 +113,7 @@ module _ (ds es : Definitions) (r : IsRearranged ds es) where
 
 pub folds_alike : RearrangedFoldsAlike
 folds_alike built_in i j ds es r =
-    let all = rearranged_behind built_in ds es r in
+    let all = rearranged_after built_in ds es r in
     let types = types_same (built_in ++ ds) (built_in ++ es) all in
     let definition = definition_alike i j (built_in ++ ds) (built_in ++ es) types (schemas_same (built_in ++ ds) (built_in ++ es) all) (schema_extensions_same (built_in ++ ds) (built_in ++ es) all) in
     let directives = directives_alike built_in ds es (directives_same ds es r) (directives_same (built_in ++ ds) (built_in ++ es) all) in

@@ -27,7 +27,7 @@ use Rattle.rule_schema_laws.proofs.Distinct.{folds_distinct}
 use Rattle.verdict_laws.proofs.Cut.{writes_alike}
 use Rattle.verdict_laws.proofs.ReadTexts.{is_own_list}
 use Rattle.verdict_definitions.specs.Texts.{SourceText, Tree, Terms}
-use Rattle.verdict_definitions.specs.Meaning.{all_definitions, schema_of, schema_at_hand}
+use Rattle.verdict_definitions.specs.Meaning.{all_definitions, schema_of, document_schema}
 use Rattle.verdict_definitions.specs.Judge.{AreSchemasAccepted}
 use Rattle.verdict_definitions.specs.Out.{Out, Layout}
 use Rattle.verdict_laws.proofs.Schemas.{schemas}
@@ -43,7 +43,7 @@ abbrev pub joined : (a b c : SchemaTree Place) → AreEqual a b → AreEqual b c
 joined a b c one two = record { same = one.same ∙ two.same; marks = λ at. one.marks at ∙ two.marks at }
 
 -- where schemas are equal, their schemas for documents are too
-hands_equal : (terms : Terms) (trees other_trees : List Tree) → AreEqual (schema_of terms trees) (schema_of terms other_trees) → AreEqual (schema_at_hand terms trees) (schema_at_hand terms other_trees)
+hands_equal : (terms : Terms) (trees other_trees : List Tree) → AreEqual (schema_of terms trees) (schema_of terms other_trees) → AreEqual (document_schema terms trees) (document_schema terms other_trees)
 hands_equal terms trees other_trees equal =
     equal_after (schema_of terms trees) (schema_of terms other_trees)
     (folds_distinct built_in_definitions terms.first_extension (all_definitions trees)) (folds_distinct built_in_definitions terms.first_extension (all_definitions other_trees)) equal
@@ -122,7 +122,7 @@ module _ (terms : Terms) (texts : List SourceText) (other : terms.first_text ≢
       accepted = accepted;
       read_back = same;
       equal = equal;
-      at_hand = hands_equal terms first.judged.trees trees equal;
+      for_documents = hands_equal terms first.judged.trees trees equal;
       written = written_alike (Out terms trees) out written;
     }
 

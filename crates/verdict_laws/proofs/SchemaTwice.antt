@@ -234,10 +234,10 @@ module _ (built_in : Definitions) (first : ℕ) (texts : Definitions) (rules : F
   arranged_again = arranged_map sorted schema_classes exts ∙ ap (λ cs. map sorted (arranged cs exts)) classes_sorted ∙ ap (map sorted) (arranged-arranged schema_classes (schema_extensions_in ds))
 
   module _ (others : Definitions) (no_schema : Each (λ d. schema_here d ≡ None) others) (no_extension : Each (λ d. schema_extension_here d ≡ None) others) (again_first : ℕ) where
-    abbrev again_behind : Definitions → Definitions
-    again_behind written = built_in ++ (written ++ others)
+    abbrev again_after : Definitions → Definitions
+    again_after written = built_in ++ (written ++ others)
 
-    schemas_again : (written : Definitions) → flat_map (λ d. option_to_list (schema_here d)) (again_behind written) ≡ flat_map (λ d. option_to_list (schema_here d)) written
+    schemas_again : (written : Definitions) → flat_map (λ d. option_to_list (schema_here d)) (again_after written) ≡ flat_map (λ d. option_to_list (schema_here d)) written
     schemas_again written =
         flat_map-append (λ d. option_to_list (schema_here d)) built_in (written ++ others)
         ∙ (λ i. no_schemas built_in (all_each (λ d. schema_here d ≡ None) built_in table.no_schema) i ++ (flat_map-append (λ d. option_to_list (schema_here d)) written others
@@ -246,7 +246,7 @@ module _ (built_in : Definitions) (first : ℕ) (texts : Definitions) (rules : F
     abbrev extension_of : DefinitionTree Place → List SchemaExtension
     extension_of d = option_map_or (λ parts. record { it = parts; place = definition_place d } ∷ []) (schema_extension_here d) []
 
-    extensions_again : (written : Definitions) → schema_extensions_in (again_behind written) ≡ schema_extensions_in written
+    extensions_again : (written : Definitions) → schema_extensions_in (again_after written) ≡ schema_extensions_in written
     extensions_again written =
         flat_map-append extension_of built_in (written ++ others)
         ∙ (λ i. no_schema_extensions built_in table_none i ++ (flat_map-append extension_of written others ∙ ap (λ l. schema_extensions_in written ++ l) (no_schema_extensions others no_extension) ∙ append-nil (schema_extensions_in written)) i)
@@ -254,15 +254,15 @@ module _ (built_in : Definitions) (first : ℕ) (texts : Definitions) (rules : F
     -- the types are the same, whichever schema definition is written
     module _ (distinct : firsts type_name (types_in ds) ≡ types_in ds) where
       abbrev HasTypes : Definitions → Type 0
-      HasTypes written = types_in (again_behind written) ≡ types_in ds
+      HasTypes written = types_in (again_after written) ≡ types_in ds
 
-      same_objects : (written : Definitions) → HasTypes written → (n : List ℕ) → is_object_named (folded_types again_first (again_behind written)) n ≡ is_object_named (folded_types first ds) n
+      same_objects : (written : Definitions) → HasTypes written → (n : List ℕ) → is_object_named (folded_types again_first (again_after written)) n ≡ is_object_named (folded_types first ds) n
       same_objects written same n =
-          objects_are n (numbered again_first (again_behind written)) (firsts type_name (types_in (again_behind written)))
+          objects_are n (numbered again_first (again_after written)) (firsts type_name (types_in (again_after written)))
           ∙ ap (λ ts. option_map_or (λ t. same_kind t.parts.kind Object) (find (λ t. bytes_eq n (type_name t)) (firsts type_name ts)) false) same
           ∙ sym (objects_are n (numbered first ds) (firsts type_name (types_in ds)))
 
-      objects_in : (written : Definitions) → HasTypes written → (n : List ℕ) → is_object_in (again_behind written) n ≡ is_object_named (folded_types first ds) n
+      objects_in : (written : Definitions) → HasTypes written → (n : List ℕ) → is_object_in (again_after written) n ≡ is_object_named (folded_types first ds) n
       objects_in written same n =
           ap (λ ts. option_map_or (λ t. same_kind t.parts.kind Object) (find (λ t. bytes_eq n (type_name t)) ts) false) (same ∙ sym distinct)
           ∙ sym (objects_are n (numbered first ds) (firsts type_name (types_in ds)))
@@ -273,7 +273,7 @@ module _ (built_in : Definitions) (first : ℕ) (texts : Definitions) (rules : F
       -- ---- it is written
 
       abbrev again : Definitions
-      again = again_behind (whole_schema ds)
+      again = again_after (whole_schema ds)
 
       no_schema_in : (xs : List SchemaExtension) → flat_map (λ d. option_to_list (schema_here d)) (map whole_schema_extension xs) ≡ []
       no_schema_in [] = refl
@@ -363,7 +363,7 @@ module _ (built_in : Definitions) (first : ℕ) (texts : Definitions) (rules : F
       -- ---- it is left out
 
       abbrev bare : Definitions
-      bare = again_behind []
+      bare = again_after []
 
       no_definition : schema_definition_in bare ≡ None
       no_definition = ap (λ l. slice_get l 0) (schemas_again [])

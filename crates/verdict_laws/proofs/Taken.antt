@@ -49,13 +49,13 @@ with_one : (kind : Option TokenKind) (text : List ℕ) (p : Piece) (at : ℕ) (t
 with_one None text p at ts e k h = h
 with_one (Some kind) text p at ts e k h = (taken_at text kind p.length (token_of text p kind e k), h)
 
-among : (pieces : List Piece) (text behind : List ℕ) (at : ℕ) → ArePieces pieces text behind → AreTaken (tokens_among pieces text at)
-among [] text behind at a = tt
-among (p ∷ ps) text behind at a = with_one p.kind text p at (tokens_among ps (drop p.length text) (at + p.length)) a.0 refl (among ps (drop p.length text) behind (at + p.length) a.1)
+among : (pieces : List Piece) (text following : List ℕ) (at : ℕ) → ArePieces pieces text following → AreTaken (tokens_among pieces text at)
+among [] text following at a = tt
+among (p ∷ ps) text following at a = with_one p.kind text p at (tokens_among ps (drop p.length text) (at + p.length)) a.0 refl (among ps (drop p.length text) following (at + p.length) a.1)
 
 -- the tokens of a text, or of its front
-pub are_taken : (text : List ℕ) (tokens : List Token) (behind : List ℕ) → LexesFront text tokens behind → AreTaken tokens
-are_taken text tokens behind lexes = subst AreTaken (sym lexes.found) (among lexes.pieces text behind 0 lexes.are)
+pub are_taken : (text : List ℕ) (tokens : List Token) (following : List ℕ) → LexesFront text tokens following → AreTaken tokens
+are_taken text tokens following lexes = subst AreTaken (sym lexes.found) (among lexes.pieces text following 0 lexes.are)
 
 -- ---- rules
 

@@ -197,16 +197,16 @@ module _ (built_in : Definitions) (first again_first : ℕ) (texts : Definitions
   abbrev out : Definitions
   out = WrittenOf built_in first texts
 
-  abbrev behind_schema : Definitions
-  behind_schema = directives_out ++ types_out
+  abbrev after_schema : Definitions
+  after_schema = directives_out ++ types_out
 
-  parts : out ≡ schema_out ++ behind_schema
+  parts : out ≡ schema_out ++ after_schema
   parts = append_assoc schema_out directives_out types_out
 
   schema_same : written_schema (fold built_in again_first out) ≡ schema_out
   schema_same =
       ap (λ l. written_schema (fold built_in again_first l)) parts
-      ∙ schema_twice built_in first texts rules table behind_schema
+      ∙ schema_twice built_in first texts rules table after_schema
       (Each-append (λ d. schema_here d ≡ None) directives_out types_out (each_directive (λ d. schema_here d ≡ None) (λ p d. refl) entries) types_no_schema)
       (Each-append (λ d. schema_extension_here d ≡ None) directives_out types_out (each_directive (λ d. schema_extension_here d ≡ None) (λ p d. refl) entries) types_no_extension)
       again_first (all_types built_in first texts rules table own ∙ sym (types_append built_in texts)) types_of_either
@@ -247,7 +247,7 @@ module _ (built_in : Definitions) (first again_first : ℕ) (texts : Definitions
   pub roots_few : ((if schema_is_defined (built_in ++ out) then flat_map extends_schema (numbered again_first (built_in ++ out)) else []) ≡ flat_map extends_schema (numbered again_first (built_in ++ out))) × ((op : OperationType) → length (roots_in op (built_in ++ out)) ≤ 1)
   roots_few =
       subst (λ l. ((if schema_is_defined (built_in ++ l) then flat_map extends_schema (numbered again_first (built_in ++ l)) else []) ≡ flat_map extends_schema (numbered again_first (built_in ++ l))) × ((op : OperationType) → length (roots_in op (built_in ++ l)) ≤ 1)) (sym parts)
-      (again_fits built_in first texts rules table behind_schema
+      (again_fits built_in first texts rules table after_schema
       (Each-append (λ d. schema_here d ≡ None) directives_out types_out (each_directive (λ d. schema_here d ≡ None) (λ p d. refl) entries) types_no_schema)
       (Each-append (λ d. schema_extension_here d ≡ None) directives_out types_out (each_directive (λ d. schema_extension_here d ≡ None) (λ p d. refl) entries) types_no_extension)
       again_first (all_types built_in first texts rules table own ∙ sym (types_append built_in texts)) types_of_either)
@@ -261,8 +261,8 @@ module _ (built_in : Definitions) (first again_first : ℕ) (texts : Definitions
   -- the schema definition is the one that is written, if one is
   schemas_few : flat_map (λ d. option_to_list (schema_here d)) out ≡ flat_map (λ d. option_to_list (schema_here d)) schema_out
   schemas_few =
-      ap (flat_map (λ d. option_to_list (schema_here d))) parts ∙ flat_map-append (λ d. option_to_list (schema_here d)) schema_out behind_schema
-      ∙ ap (λ l. flat_map (λ d. option_to_list (schema_here d)) schema_out ++ l) (no_schemas behind_schema (Each-append (λ d. schema_here d ≡ None) directives_out types_out (each_directive (λ d. schema_here d ≡ None) (λ p d. refl) entries) types_no_schema))
+      ap (flat_map (λ d. option_to_list (schema_here d))) parts ∙ flat_map-append (λ d. option_to_list (schema_here d)) schema_out after_schema
+      ∙ ap (λ l. flat_map (λ d. option_to_list (schema_here d)) schema_out ++ l) (no_schemas after_schema (Each-append (λ d. schema_here d ≡ None) directives_out types_out (each_directive (λ d. schema_here d ≡ None) (λ p d. refl) entries) types_no_schema))
       ∙ append-nil (flat_map (λ d. option_to_list (schema_here d)) schema_out)
 
   pub one_schema : length (flat_map (λ d. option_to_list (schema_here d)) out) ≤ 1
@@ -287,7 +287,7 @@ module _ (built_in : Definitions) (first again_first : ℕ) (texts : Definitions
       s : SchemaTree Place
       s = fold built_in first texts
 
-      rest_none : Each (λ d. schema_extension_here d ≡ None) behind_schema
+      rest_none : Each (λ d. schema_extension_here d ≡ None) after_schema
       rest_none = Each-append (λ d. schema_extension_here d ≡ None) directives_out types_out (each_directive (λ d. schema_extension_here d ≡ None) (λ p d. refl) entries) types_no_extension
 
       abstain : (xs : Definitions) → Each (λ d. schema_extension_here d ≡ None) xs → Each (λ d. is_some (schema_extension_here d) ≡ true → schema_is_defined (built_in ++ out) ≡ true) xs
@@ -302,7 +302,7 @@ module _ (built_in : Definitions) (first again_first : ℕ) (texts : Definitions
       by true e =
           let none : schema_out ≡ [] = ap (λ b. if b then [] else Schema s.definition.place s.definition.description (schema_parts_given_by None None s.definition)
           ∷ map (λ e. ExtendSchema e.place (schema_parts_given_by None (Some e) s.definition)) (extensions_of_schema s.definition)) e in
-          subst (Each (λ d. is_some (schema_extension_here d) ≡ true → schema_is_defined (built_in ++ out) ≡ true)) (sym (parts ∙ ap (λ l. l ++ behind_schema) none)) (abstain behind_schema rest_none)
+          subst (Each (λ d. is_some (schema_extension_here d) ≡ true → schema_is_defined (built_in ++ out) ≡ true)) (sym (parts ∙ ap (λ l. l ++ after_schema) none)) (abstain after_schema rest_none)
       by false e =
           let some : schema_out ≡ Schema s.definition.place s.definition.description (schema_parts_given_by None None s.definition)
           ∷ map (λ e. ExtendSchema e.place (schema_parts_given_by None (Some e) s.definition)) (extensions_of_schema s.definition) = ap (λ b. if b then [] else Schema s.definition.place s.definition.description (schema_parts_given_by None None s.definition)
@@ -343,7 +343,7 @@ module _ (built_in : Definitions) (first again_first : ℕ) (texts : Definitions
   pub definition_plain : plain_roots (folded_schema again_first (built_in ++ out)) ≡ plain_roots (folded_schema first ds)
   definition_plain =
       ap (λ l. plain_roots (folded_schema again_first (built_in ++ l))) parts
-      ∙ schema_equal built_in first texts rules table behind_schema
+      ∙ schema_equal built_in first texts rules table after_schema
       (Each-append (λ d. schema_here d ≡ None) directives_out types_out (each_directive (λ d. schema_here d ≡ None) (λ p d. refl) entries) types_no_schema)
       (Each-append (λ d. schema_extension_here d ≡ None) directives_out types_out (each_directive (λ d. schema_extension_here d ≡ None) (λ p d. refl) entries) types_no_extension)
       again_first (all_types built_in first texts rules table own ∙ sym (types_append built_in texts)) types_of_either

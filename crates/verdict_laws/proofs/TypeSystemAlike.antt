@@ -12,7 +12,7 @@ use Rattle.read_grammar.specs.OperationGrammar.{operation_type}
 use Rattle.read_grammar.specs.TypeSystemGrammar as g
 use Rattle.read_grammar.specs.TypeSystemGrammar.{KindTree, SchemaKind, ScalarKind, ObjectKind, InterfaceKind, UnionKind, EnumKind, InputObjectKind, root_of, schema_of, schema_extension_of, input_value_of, field_definition_of, enum_value_definition_of, scalar_of, fields_of, union_of, enum_of, input_object_of, directive_definition_of}
 use Rattle.read_grammar.specs.Grammar.{is_empty, has_part}
-use Rattle.verdict_laws.proofs.Alike.{Alike, fixed, skipped, mapped, made, seq, choice, never, maybe, maybe_or, maybe_or_unless, one_or_more, enclosed, behind, located, separated}
+use Rattle.verdict_laws.proofs.Alike.{Alike, fixed, skipped, mapped, made, seq, choice, never, maybe, maybe_or, maybe_or_unless, one_or_more, enclosed, following, located, separated}
 use Rattle.verdict_laws.proofs.ValuesAlike.{name_alike, enum_value_alike, default_alike, directives_alike, type_alike}
 
 abbrev pub unplaced_kind : {P : Type 0} → KindTree P → KindTree (Unit {0})
@@ -72,7 +72,7 @@ module _ {P : Type 0} (string : Token → List ℕ) (at other : ℕ → ℕ → 
 
   implements_alike : Alike (g.implements_interfaces m) (g.implements_interfaces k) (map unplaced_text)
   unfolding g.implements_interfaces
-  implements_alike = behind (separated is_ampersand (name_alike string at other)) is_implements
+  implements_alike = following (separated is_ampersand (name_alike string at other)) is_implements
 
   input_value_alike : (n : ℕ) → Alike (g.input_value_definition m n) (g.input_value_definition k n) unplaced_input_value
   unfolding g.input_value_definition
@@ -108,7 +108,7 @@ module _ {P : Type 0} (string : Token → List ℕ) (at other : ℕ → ℕ → 
 
   members_alike : Alike (g.union_member_types m) (g.union_member_types k) (map unplaced_text)
   unfolding g.union_member_types
-  members_alike = behind (separated is_pipe (name_alike string at other)) is_equals
+  members_alike = following (separated is_pipe (name_alike string at other)) is_equals
 
   union_alike : (n : ℕ) → Alike (g.union_type m n) (g.union_type k n) unplaced_union
   unfolding g.union_type

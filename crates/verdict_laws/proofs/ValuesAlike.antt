@@ -12,7 +12,7 @@ use Rattle.read_grammar.specs.Kinds.{is_name, is_enum_value, is_dollar, is_colon
 use Rattle.read_grammar.specs.Rules.{Rule, one, ◌<$>◌}
 use Rattle.read_grammar.specs.ValueGrammar as v
 use Rattle.read_grammar.specs.ValueGrammar.{Const, constant, items_of, entries_of, argument_of, directive_of, type_of}
-use Rattle.verdict_laws.proofs.Alike.{Alike, fixed, skipped, mapped, made, seq, choice, never, unless, maybe_or, several, one_or_more, enclosed, behind, located}
+use Rattle.verdict_laws.proofs.Alike.{Alike, fixed, skipped, mapped, made, seq, choice, never, unless, maybe_or, several, one_or_more, enclosed, following, located}
 
 abbrev Entry : Type 0 → Type 0
 Entry P = Text P × (Unit {0} × Placed P (ValueTree P))
@@ -51,7 +51,7 @@ module _ {P : Type 0} where
     name_alike = named is_name
 
     pub variable_alike : Alike (v.variable m) (v.variable k) unplaced_text
-    variable_alike = behind name_alike is_dollar
+    variable_alike = following name_alike is_dollar
 
     pub enum_value_alike : Alike (v.enum_value m) (v.enum_value k) unplaced_text
     enum_value_alike = named is_enum_value
@@ -82,7 +82,7 @@ module _ {P : Type 0} where
 
     pub default_alike : (n : ℕ) → Alike (v.default_value m n) (v.default_value k n) (unplaced_node unplaced_value)
     unfolding v.default_value
-    default_alike n = behind (located (value_alike constant n) m k) is_equals
+    default_alike n = following (located (value_alike constant n) m k) is_equals
 
     argument_alike : (const : Const) (n : ℕ) → Alike (v.argument m const n) (v.argument k const n) unplaced_argument
     unfolding v.argument

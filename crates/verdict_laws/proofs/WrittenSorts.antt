@@ -24,8 +24,8 @@ use Rattle.verdict_laws.specs.Writing.{RearrangedWritesAlike, RearrangedWritesPe
 use Rattle.verdict_laws.proofs.Gathered.{map-filter, find-filter}
 use Rattle.verdict_laws.proofs.Parts.{unplaced_type_definition, extensions_of}
 use Rattle.verdict_laws.proofs.Roots.{told}
-use Rattle.verdict_laws.proofs.RearrangedLists.{rearranged_behind, types_same, extensions_same, directives_same, executable_unplaced}
-use Rattle.verdict_laws.proofs.Marks.{marked_named_behind}
+use Rattle.verdict_laws.proofs.RearrangedLists.{rearranged_after, types_same, extensions_same, directives_same, executable_unplaced}
+use Rattle.verdict_laws.proofs.Marks.{marked_named_after}
 use Rattle.verdict_laws.proofs.Changes.{type_written, schema_written, left_out}
 use Rattle.verdict_laws.proofs.Written.{marked_type, marked_type_name, type_with, type_out, MarkedDirective, marked_directive, marked_directive_name, own_directives, chosen, directive_written, directive_out, schema_with, schema_by, applied_extensions, schema_of_all, out_plain}
 use Rattle.verdict_laws.proofs.Sorts.{Sort, nothing, IsOfName, defined, extended, passes, no_one, no_map, passing, any-filter, rearranged_by_sorts}
@@ -84,9 +84,9 @@ module _ {A B : Type 0} (here : DefinitionTree Place → Option A) (mark : A →
   named_alike : (front ds es : Definitions) → AllByRecursion (λ a. mark a ≡ false) (all_here ds) → AllByRecursion (λ a. mark a ≡ false) (all_here es) → map blind (those ds) ≡ map blind (those es)
       → with_marks (those (front ++ ds)) ≡ with_marks (those (front ++ es))
   named_alike front ds es hd he same =
-      marked_named_behind here (λ a. (mark a, blind a)) (λ a. bytes_eq n (name a)) front ds
+      marked_named_after here (λ a. (mark a, blind a)) (λ a. bytes_eq n (name a)) front ds
       ∙ ap (λ l. with_marks (those front) ++ l) (named_marked ds hd ∙ ap (map (λ u. (false, u))) same ∙ sym (named_marked es he))
-      ∙ sym (marked_named_behind here (λ a. (mark a, blind a)) (λ a. bytes_eq n (name a)) front es)
+      ∙ sym (marked_named_after here (λ a. (mark a, blind a)) (λ a. bytes_eq n (name a)) front es)
 
 module _ (built_in ds es : Definitions) (r : IsRearranged ds es) (hd : AreOwn ds) (he : AreOwn es) where
   abbrev all : Definitions → Definitions
@@ -127,13 +127,13 @@ module _ (built_in ds es : Definitions) (r : IsRearranged ds es) (hd : AreOwn ds
     types_pass : filter (passes test) (types_out (extensions_of (all ds)) (all ds)) ≡ filter (passes test) (types_out (extensions_of (all es)) (all es))
     types_pass =
         passing test n marked_type_name (type_out (extensions_of (all ds))) (λ q h. no_type test q.0 (type_with (extensions_of (all ds)) q) (is.types (marked_type_name q) h) (is.extensions (marked_type_name q) h)) (map marked_type (types_in (all ds))) (map marked_type (types_in (all es))) (types_alike n)
-        ∙ (λ k. filter (passes test) (types_out (λ m. extensions_same (all ds) (all es) (rearranged_behind built_in ds es r) m k) (all es)))
+        ∙ (λ k. filter (passes test) (types_out (λ m. extensions_same (all ds) (all es) (rearranged_after built_in ds es r) m k) (all es)))
 
     out_alike : (i j : ℕ) → filter (passes test) (unplaced_document (WrittenOf built_in i ds)) ≡ filter (passes test) (unplaced_document (WrittenOf built_in j es))
     out_alike i j =
         ap (filter (passes test)) (out_plain built_in i ds)
         ∙ pieces (schema_of_all (all ds)) (directives_out (own_directives ds) (all ds)) (types_out (extensions_of (all ds)) (all ds))
-        ∙ (λ k. (filter (passes test) (schema_alike (all ds) (all es) (rearranged_behind built_in ds es r) k) ++ directives_pass k) ++ types_pass k)
+        ∙ (λ k. (filter (passes test) (schema_alike (all ds) (all es) (rearranged_after built_in ds es r) k) ++ directives_pass k) ++ types_pass k)
         ∙ sym (pieces (schema_of_all (all es)) (directives_out (own_directives es) (all es)) (types_out (extensions_of (all es)) (all es)))
         ∙ ap (filter (passes test)) (sym (out_plain built_in j es))
 

@@ -6,7 +6,7 @@ use Rattle.graphql_names.specs.Placed.{Place}
 use Rattle.schema_types.specs.SchemaTree.{SchemaTree}
 use Rattle.rule_definitions.specs.Laws.{AreEqual}
 use Rattle.verdict_definitions.specs.Texts.{SourceText, Tree, Terms}
-use Rattle.verdict_definitions.specs.Meaning.{schema_of, schema_at_hand, document_over}
+use Rattle.verdict_definitions.specs.Meaning.{schema_of, document_schema, document_over}
 use Rattle.verdict_definitions.specs.Judge.{AreSchemasAccepted, IsDocumentAccepted}
 use Rattle.verdict_definitions.specs.Out.{Out, OutDoc, Layout, layout_text}
 use Rattle.verdict_laws.specs.RoadBack.{IsPlainLayout, IsSameTree, IsSameDocument}
@@ -21,7 +21,7 @@ TextsTellTrees a b = (layout : Layout) → IsPlainLayout layout → (layout_text
 pub record SchemasAreToldByTexts (terms next : Terms) (trees others : List Tree) : Type 0 where
   pub texts : TextsTellTrees (Out terms trees) (Out next others)
   pub equal : IsSameTree (Out terms trees) (Out next others) → AreEqual (schema_of terms trees) (schema_of next others)
-  pub at_hand : IsSameTree (Out terms trees) (Out next others) → AreEqual (schema_at_hand terms trees) (schema_at_hand next others)
+  pub for_documents : IsSameTree (Out terms trees) (Out next others) → AreEqual (document_schema terms trees) (document_schema next others)
 
 -- no schema text has the number of what is built in
 abbrev pub EqualSchemaTexts : Type 0

@@ -51,7 +51,7 @@ module _ (settings : Settings) where
     pub folds : FoldingRules built_in_definitions i (list_of texts) ↔ FoldingRules built_in_definitions j (list_of others)
     pub rules : SchemaRules (judged (schema_of_texts i texts)) ↔ SchemaRules (judged (schema_of_texts j others))
     pub schema : AreEqual (schema_of_texts i texts) (schema_of_texts j others)
-    pub at_hand : AreEqual (validated (schema_of_texts i texts)) (validated (schema_of_texts j others))
+    pub for_documents : AreEqual (validated (schema_of_texts i texts)) (validated (schema_of_texts j others))
     pub writes : IsPermuted (WrittenOf built_in_definitions i (list_of texts)) (WrittenOf built_in_definitions j (list_of others))
 
 abbrev pub LawOfRearrangingReadTexts : Type 0

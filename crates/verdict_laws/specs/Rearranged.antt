@@ -6,7 +6,7 @@ use Rattle.rule_definitions.specs.Laws.{AreEqual}
 use Rattle.verdict_laws.specs.RearrangedLists.{IsRearranged}
 use Rattle.verdict_laws.specs.Permuting.{IsPermuted}
 use Rattle.verdict_definitions.specs.Texts.{SourceText, Tree, Terms, ReadsAll, document_number}
-use Rattle.verdict_definitions.specs.Meaning.{all_definitions, schema_at_hand}
+use Rattle.verdict_definitions.specs.Meaning.{all_definitions, document_schema}
 use Rattle.verdict_definitions.specs.Judge.{JudgeSchemas, Judge, AreSchemasAccepted, AreSchemasCertain, IsAccepted, IsCertain}
 use Rattle.verdict_definitions.specs.Out.{Out, Layout, layout_text}
 use Rattle.verdict_definitions.specs.Answer.{WritesSchema, AcceptedBytes}
@@ -45,7 +45,7 @@ module _ (terms : Terms) (texts others : List SourceText) where
   -- The verdict is the same on the schema texts and, over them, on every document; and documents are judged over equal schemas.
   pub record AreJudgedAlike : Type 0 where
     pub schemas : JudgeSchemas terms texts ↔ JudgeSchemas terms others
-    pub at_hand : (a : JudgeSchemas terms texts) (b : JudgeSchemas terms others) → AreEqual (schema_at_hand terms a.trees) (schema_at_hand terms b.trees)
+    pub for_documents : (a : JudgeSchemas terms texts) (b : JudgeSchemas terms others) → AreEqual (document_schema terms a.trees) (document_schema terms b.trees)
     pub pairs : (document : SourceText) → Judge terms texts document ↔ Judge terms others document
 
   -- One list of schema texts is accepted, or certain, exactly when the other is, and so is each pair, if both have numbers.

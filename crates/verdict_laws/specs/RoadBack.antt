@@ -9,7 +9,7 @@ use Rattle.rule_definitions.specs.Laws.{AreEqual}
 use Rattle.spec_document.specs.MeantTree.{MeantDocument}
 use Rattle.spec_document.specs.Unplaced as meant
 use Rattle.verdict_definitions.specs.Texts.{SourceText, Tree, Terms, document_number}
-use Rattle.verdict_definitions.specs.Meaning.{all_definitions, schema_of, schema_at_hand, document_over}
+use Rattle.verdict_definitions.specs.Meaning.{all_definitions, schema_of, document_schema, document_over}
 use Rattle.verdict_definitions.specs.Judge.{AreSchemasAccepted, IsDocumentAccepted, IsAccepted, PassesNoDocumentBound, IsCertain}
 use Rattle.verdict_definitions.specs.Out.{Out, OutDoc, Layout, layout_text, as_lines}
 use Rattle.verdict_definitions.specs.Answer.{AcceptedBytes}
@@ -43,7 +43,7 @@ pub record SchemaLeadsBack (terms : Terms) (schemas : List SourceText) (first : 
   pub accepted : AreSchemasAccepted terms (text ∷ [])
   pub read_back : IsSameTree (all_definitions accepted.judged.trees) (Out terms first.judged.trees)
   pub equal : AreEqual (schema_of terms first.judged.trees) (schema_of terms accepted.judged.trees)
-  pub at_hand : AreEqual (schema_at_hand terms first.judged.trees) (schema_at_hand terms accepted.judged.trees)
+  pub for_documents : AreEqual (document_schema terms first.judged.trees) (document_schema terms accepted.judged.trees)
   pub written : IsWrittenAlike (Out terms accepted.judged.trees) (Out terms first.judged.trees)
 
 -- no schema text has the number of what is built in
@@ -77,7 +77,7 @@ DocumentRoadBack = (schema other : SchemaTree Place) → AreEqual schema other �
 pub record PairLeadsBack (terms : Terms) (schemas : List SourceText) (document : SourceText) (first : IsAccepted terms schemas document) (schema_written document_written : SourceText) : Type 0 where
   pub accepted : IsAccepted terms (schema_written ∷ []) document_written
   pub schema : SchemaLeadsBack terms schemas first.schema schema_written
-  pub over : DocumentLeadsBack terms.nesting (schema_at_hand terms first.schema.judged.trees) (schema_at_hand terms schema.accepted.judged.trees)
+  pub over : DocumentLeadsBack terms.nesting (document_schema terms first.schema.judged.trees) (document_schema terms schema.accepted.judged.trees)
       (document_number terms schemas) (document_number terms (schema_written ∷ [])) document first.over document_written
   pub certain : IsCertain terms schemas document ↔ IsCertain terms (schema_written ∷ []) document_written
   pub answered : (layout : Layout) (bytes : List ℕ) → AcceptedBytes terms layout schemas document bytes ↔ AcceptedBytes terms layout (schema_written ∷ []) document_written bytes

@@ -145,7 +145,7 @@ def hover(workspace: Workspace, path: str, file: File, offset: int, found: List[
     at = use_at(workspace, path, offset)
     if at and at[2].member:
         use, member = at[2], at[2].member
-        told.append(described(f"{use.owner}.{member.signature}" if use.kind == "field" else type_text(member), member))
+        told.append(described(f"{use.owner}.{member.signature}" if use.kind in ("field", "input field") else type_text(member), member))
     elif not at:
         named = type_at(workspace, path, file, offset)
         told += [described(type_text(named[2]), named[2])] if named else []

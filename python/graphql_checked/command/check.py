@@ -57,7 +57,9 @@ def add(reader: argparse.ArgumentParser) -> None:
     reader.add_argument("--format", choices=FORMS, default="text", help="how findings are told (text)")
     reader.add_argument("--since", metavar="REVISION", help="checks documents with a part that changed since a revision of git; all where the schema did")
     reader.add_argument("--max-faults", type=int, default=0, metavar="N", help="how many faults are told of a document at most")
-    reader.add_argument("--no-warnings", action="store_true", help="tells nothing of deprecated fields, arguments and values")
+    warnings = reader.add_mutually_exclusive_group()
+    warnings.add_argument("--no-warnings", action="store_true", help="tells nothing of uses of what is deprecated")
+    warnings.add_argument("--deny", choices=("warnings",), help="the status is 1 if there is a warning")
     words.add(reader)
 
 
@@ -87,17 +89,18 @@ def outcome(given: argparse.Namespace, asked: words.Asked, project: Project) -> 
         documents = Documents.of(project, held)
         chosen = _chosen(given, asked, documents)
         found = documents.found(chosen)
-        warned = [] if given.no_warnings else deprecated(documents, chosen)
+        refused = {it.place.path for it in found.findings}  # of which the faults alone are told
+        warned = [] if given.no_warnings else [it for it in deprecated(documents, chosen) if it.place.path not in refused]
     if not documents.sources and not documents.unread:
         raise Stop(WRONG_WORDS, f"no text of GraphQL is in the documents of {project.name or 'the configuration'}: nothing was checked")
     findings = sorted(found.findings + warned, key=lambda it: it.order)
     return Outcome(project, findings, found.documents, found.unread, named=1 if chosen is None else len(chosen))
 
 
-def tell(outcomes: List[Outcome], form: str) -> int:
-    """Tells what was found, and gives the status."""
+def tell(outcomes: List[Outcome], form: str, denies: bool = False) -> int:
+    """Tells what was found, and gives the status, for which warnings may count as faults."""
     found = [it for one in outcomes for it in one.findings]
-    refused = any(it.severity == "error" for it in found)
+    refused = any(denies or it.severity == "error" for it in found)
     try:
         for line in lines(found, form):
             print(line)
@@ -117,4 +120,4 @@ def run(given: argparse.Namespace) -> int:
     outcomes = [outcome(given, asked, it) for it in asked.projects]
     if asked.documents and not any(it.named for it in outcomes):
         raise Stop(WRONG_WORDS, f"`{asked.documents[0]}` is no document of {told_path('.', asked.path or '.')}")
-    return tell(outcomes, given.format)
+    return tell(outcomes, given.format, given.deny == "warnings")

@@ -2,11 +2,15 @@
 
 It passes over what it does not know, and decides no verdict."""
 
+import json
+import re
 from dataclasses import dataclass, field
 from typing import Dict, List, Match, Optional, Tuple
 
 from .outline import TOKENS
 
+NO_REASON = "No longer supported"
+"""Why what is deprecated is so, where `@deprecated` gives no reason (3.13.3)."""
 KINDS = ("schema", "scalar", "type", "interface", "union", "enum", "input", "directive")
 
 
@@ -24,7 +28,7 @@ class Member:
     arguments: List["Member"] = field(default_factory=list)
     directives: List[str] = field(default_factory=list)
     reason: str = ""
-    """Why it is deprecated."""
+    """Why it is deprecated, if it is."""
     description: str = ""
 
     @property
@@ -127,21 +131,26 @@ class Cursor:
         """Takes directives."""
         while self.take("@"):
             name = self.name()[0]
+            if name == "deprecated" and name not in into.directives:
+                is_given = self.text() == "(" and self.text(1) == "reason" and self.text(3).startswith('"')
+                into.reason = string_value(self.text(3)) if is_given else NO_REASON
             into.directives.append(name)
-            if self.text() != "(":
-                continue
-            if name == "deprecated" and self.text(1) == "reason" and self.tokens[min(self.at + 3, len(self.tokens) - 1)].lastgroup == "string":
-                into.reason = string_value(self.text(3))
-            self.skip_brackets()
+            if self.text() == "(":
+                self.skip_brackets()
 
 
 def string_value(token: str) -> str:
-    """The value of a string, near enough to be shown."""
-    if token.startswith('"""'):
-        lines = token[3:-3].replace('\\"""', '"""').split("\n")
-        common = min((len(it) - len(it.lstrip()) for it in lines[1:] if it.strip()), default=0)
-        return "\n".join([lines[0], *(it[common:] for it in lines[1:])]).strip("\n \t")
-    return token[1:-1].replace('\\"', '"').replace("\\n", "\n")
+    """The value of a string (2.9.4), whose escapes are those of JSON; with other escapes, which the library refuses, as it is written."""
+    if not token.startswith('"""'):
+        try:
+            return str(json.loads(token, strict=False)).encode().decode()  # a surrogate is no character
+        except ValueError:
+            return token[1:-1]
+    lines = re.split("\r\n|\n|\r", token[3:-3].replace('\\"""', '"""'))
+    common = min((len(it) - len(it.lstrip(" \t")) for it in lines[1:] if it.strip(" \t")), default=0)
+    lines = [lines[0], *(it[common:] for it in lines[1:])]
+    full = [index for index, it in enumerate(lines) if it.strip(" \t")]
+    return "\n".join(lines[full[0] : full[-1] + 1]) if full else ""
 
 
 def _members(cursor: Cursor, closing: str) -> List[Member]:

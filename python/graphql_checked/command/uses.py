@@ -16,7 +16,7 @@ class Use:
     """A name of a document."""
 
     kind: str
-    """`field`, `argument`, `value`, `type`, `fragment` or `directive`."""
+    """`field`, `argument`, `input field`, `value`, `type`, `fragment` or `directive`."""
     name: str
     start: int
     """The byte of the text where it begins."""
@@ -137,7 +137,7 @@ class Walk:
         elif cursor.take("{"):
             while not cursor.is_over and not cursor.take("}"):
                 number, members = self.types.all_members(type_name)
-                self.entry("field", type_name, members, number)
+                self.entry("input field", type_name, members, number)
         elif cursor.kind() == "name":
             name, start, end = cursor.name()
             found = self.types.member(type_name, name)

@@ -7,7 +7,7 @@ use Rattle.schema_building.specs.SourcesView.{sources_view}
 use Rattle.graphql_rules.specs.in_faults.DetailsView.{diagnostics_of}
 use Rattle.checker_schemas.specs.Finishing.{IsFilled, RefusalOfNumbers}
 use Rattle.checker_calls.specs.TextsView.{terms_of, texts_of, trees_of, all_sources}
-use Rattle.checker_schemas.proofs.Finishing.{unread_refusal, are_all_read, number_behind, numbers_refusal, builder_refusal, accepted}
+use Rattle.checker_schemas.proofs.Finishing.{unread_refusal, are_all_read, number_after, numbers_refusal, builder_refusal, accepted}
 use Rattle.checker_schemas.proofs.finish.schema_of_texts.Goals as goal
 
 pub returns-then-not-is_empty-clause-refused : goal.returns-then-not-is_empty-clause-refused
@@ -40,7 +40,7 @@ returns-clause-schema c =
     let filled : IsFilled s.extensions (trees_of s) (all_sources s.documents.items) b = subst (λ ds. IsFilled s.extensions (map document_tree ds) (all_sources ds) b) c.deref.ensures.value c.in_ok-builder.ensures.filled in
     accepted (terms_of s) (texts_of s) (trees_of s) (are_all_read (terms_of s) (texts_of s) s.files (trees_of s) (all_sources s.documents.items) (diagnostics_of s.unread) c.requires silent) (c.requires.kept silent)
     (all_sources s.documents.items) b filled c.next_number.result (schema_tree c.in_ok-schema.schema) (sources_view c.in_ok-schema.schema.sources) (document_tree c.in_ok-schema.written)
-    (c.next_number.ensures.is ∙ number_behind (terms_of s) (texts_of s) s.files (trees_of s) (all_sources s.documents.items) (diagnostics_of s.unread) c.requires silent) c.in_ok-schema.ensures.judged (c.requires.sources silent) c.in_ok-schema.ensures.sources
+    (c.next_number.ensures.is ∙ number_after (terms_of s) (texts_of s) s.files (trees_of s) (all_sources s.documents.items) (diagnostics_of s.unread) c.requires silent) c.in_ok-schema.ensures.judged (c.requires.sources silent) c.in_ok-schema.ensures.sources
 
 pub judge-requires : goal.judge-requires
 judge-requires c = c.in_ok-builder.ensures.filled.running

@@ -1,5 +1,5 @@
 use Rattle.std.proofs.Common.{map, drop, sym, subst, List, ℕ, Bor}
-use Rattle.ffi_memory.proofs.Cuts.{Going, going_begins, going_pushed, next_end, none_before, none_behind, none_over, none_after, none_long, some_long, cut_whole}
+use Rattle.ffi_memory.proofs.Cuts.{Going, going_begins, going_pushed, next_end, none_before, none_following, none_over, none_after, none_long, some_long, cut_whole}
 use Rattle.ffi_memory.proofs.texts.cut.Goals as goal
 
 pub loop-end-init : goal.loop-end-init
@@ -18,7 +18,7 @@ returns-then-end-start-clause-fault c e =
 
 pub returns-then-rest-end-clause-fault : goal.returns-then-rest-end-clause-fault
 returns-then-rest-end-clause-fault c e =
-    none_behind c.args.bytes.now c.args.ends.now c.loop-end.start c.loop-end.rest.now (drop c.loop-end.end-index c.args.ends.now) (map (λ t. t.now) c.loop-end.texts.items) c.loop-end.invariant _ _
+    none_following c.args.bytes.now c.args.ends.now c.loop-end.start c.loop-end.rest.now (drop c.loop-end.end-index c.args.ends.now) (map (λ t. t.now) c.loop-end.texts.items) c.loop-end.invariant _ _
     (next_end c.args.ends.now c.loop-end.end-index c.loop-end-test.true) c.if-rest-end.true
 
 pub returns-then-not-is_empty-clause-fault : goal.returns-then-not-is_empty-clause-fault

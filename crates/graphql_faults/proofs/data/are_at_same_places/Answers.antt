@@ -9,7 +9,7 @@ pub loop-index-preserved : goal.loop-index-preserved
 loop-index-preserved c = λ k low.
     elim (cases_lt k c.loop-index.index) [
       | inl before ↦ c.loop-index.invariant k before
-      | inr behind ↦
+      | inr following ↦
           let here : c.loop-index.index ≡ k = omega arith in
           let one = c.trace_place.ensures in
           let other = c.trace_place-in-loop-index.ensures in

@@ -7,7 +7,7 @@ use Rattle.read_types.specs.in_read_operations.Meanings.{in_file}
 use Rattle.graphql_read.specs.ReadFaults.{fault_view, selections_tree}
 use Rattle.graphql_read.specs.Reads.{IsDue}
 use Rattle.graphql_read.proofs.Texts.{begins, lexed_as, found, only, memory, due, memory_due}
-use Rattle.graphql_read.proofs.Bounds.{not_passed, stands_in, passes_bound}
+use Rattle.graphql_read.proofs.Bounds.{not_passed, lies_in, passes_bound}
 use Rattle.graphql_read.proofs.Soundness.{selections_sound}
 use Rattle.graphql_read.proofs.selections_call.parse_selections.Goals as goal
 
@@ -29,7 +29,7 @@ pub returns-in-Ok-clause-sound : goal.returns-in-Ok-clause-sound
 returns-in-Ok-clause-sound c = selections_sound c.args.file c.args.text.now (selections_tree c.in-Ok.found) (returns-in-Ok-clause-found c).reads
 
 pub returns-clause-within : goal.returns-clause-within
-returns-clause-within c = stands_in (DerivesSelections (in_file c.args.file)) c.args.nesting c.args.text.now (fault_view c.fault.result) (returns-clause-fault c)
+returns-clause-within c = lies_in (DerivesSelections (in_file c.args.file)) c.args.nesting c.args.text.now (fault_view c.fault.result) (returns-clause-fault c)
 
 pub returns-in-Ok-clause-bound : goal.returns-in-Ok-clause-bound
 returns-in-Ok-clause-bound c = not_passed (DerivesSelections (in_file c.args.file)) c.args.nesting c.args.text.now (selections_tree c.in-Ok.found) (returns-in-Ok-clause-found c)

@@ -6,7 +6,7 @@ use Rattle.rule_definitions.specs.Room.{most_told}
 use Rattle.graphql_faults.specs.DetailsView.{diagnostics_of}
 use Rattle.graphql_rules.specs.Appends.{AppendsThese}
 use Rattle.graphql_rules.proofs.Whole.{silent_keeps, kept_is_silent}
-use Rattle.graphql_rules.proofs.Appended.{nothing_behind, behind_nothing, none_of_all}
+use Rattle.graphql_rules.proofs.Appended.{nothing_after, after_nothing, none_of_all}
 use Rattle.rule_schema_laws.proofs.Ordered.{ordered}
 use Rattle.graphql_rules.proofs.Lawful.{left_is, ordered_left, literals_left}
 use Rattle.graphql_rules.proofs.schema.validate_schema.Goals as goal
@@ -21,13 +21,13 @@ unfolding returns-clause-told
 returns-clause-silent c =
     let told = c.in_ok-faults.ensures in
     λ same. silent_keeps (schema_tree c.args.schema.now) told.0 told.1.1
-    (none_of_all told.0 (nothing_behind (diagnostics_of c.args.list.now) (diagnostics_of c.append_faults.new.self) (take most_told told.0) (returns-clause-told c).1.0 same))
+    (none_of_all told.0 (nothing_after (diagnostics_of c.args.list.now) (diagnostics_of c.append_faults.new.self) (take most_told told.0) (returns-clause-told c).1.0 same))
 
 pub returns-clause-accepts : goal.returns-clause-accepts
 unfolding returns-clause-told
 returns-clause-accepts c =
     let told = c.in_ok-faults.ensures in
-    λ rules within. behind_nothing (diagnostics_of c.args.list.now) (diagnostics_of c.append_faults.new.self) (take most_told told.0) (returns-clause-told c).1.0
+    λ rules within. after_nothing (diagnostics_of c.args.list.now) (diagnostics_of c.append_faults.new.self) (take most_told told.0) (returns-clause-told c).1.0
     (ap (take most_told) (kept_is_silent (schema_tree c.args.schema.now) told.0 told.1.1 rules within))
 
 pub returns-clause-kept : goal.returns-clause-kept

@@ -14,7 +14,7 @@ use Rattle.rule_fragments.proofs.in_reach.AtReaches.{some_index}
 use Rattle.graphql_validation.specs.Operations.{OperationFailsAlone, ReachesNamed, NotesNames}
 use Rattle.graphql_validation.proofs.Joined.{TellsOf, none_found, more_found, all_found, full_found}
 use Rattle.graphql_validation.proofs.Noting.{notes_none, notes_more, notes_same}
-use Rattle.rule_fragments.proofs.Operations.{lent_operation, lent_operations, all_operations, one_behind, lent_more, lent_all, lent_among}
+use Rattle.rule_fragments.proofs.Operations.{lent_operation, lent_operations, all_operations, one_after, lent_more, lent_all, lent_among}
 use Rattle.graphql_validation.proofs.alone.check_operations.Goals as goal
 
 pub loop-operation-init : goal.loop-operation-init
@@ -43,11 +43,11 @@ loop-operation-preserved c =
     let mid : noted_names c.take_faults-before.new.self.used ≡ noted_names at.found.used = ap noted_names c.take_faults-before.ensures.used in
     let last : noted_names c.join.new.self.used ≡ noted_names c.check_operation.new.found.used = ap noted_names c.in_ok-join.ensures.used in
     let among = lent_among at.yielded x (operations d) left rest c.in-Some.ensures.steps at.invariant.2 in (
-      more_found (OperationFailsAlone d) {Right = λ f. AtOperation d (λ o. OperationFailsAlone d o f)} before own new xs all (lent_operation x) (one_behind at.yielded x) (λ f fails. (lent_operation x, (among, fails)))
+      more_found (OperationFailsAlone d) {Right = λ f. AtOperation d (λ o. OperationFailsAlone d o f)} before own new xs all (lent_operation x) (one_after at.yielded x) (λ f fails. (lent_operation x, (among, fails)))
           (subst (TellsUnlessFull (λ f. AtOperation d (λ o. OperationFailsAlone d o f)) (TellsOf (OperationFailsAlone d) xs)) (sym same) at.invariant.0)
           (faults_of c.take_faults-before.new.self.faults) (ap (map fault_of) c.take_faults-before.ensures.none)
           c.in_ok-check_operation.ensures.told c.in_ok-join.ensures.joined,
-      notes_more (λ o n. ReachesNamed d o n) [] (noted_names at.found.used) (noted_names c.join.new.self.used) xs all (lent_operation x) (one_behind at.yielded x) at.invariant.1
+      notes_more (λ o n. ReachesNamed d o n) [] (noted_names at.found.used) (noted_names c.join.new.self.used) xs all (lent_operation x) (one_after at.yielded x) at.invariant.1
           (subst (λ l. NotesNames (noted_names at.found.used) l (ReachesNamed d (lent_operation x))) (sym last) (subst (λ l. NotesNames l (noted_names c.check_operation.new.found.used) (ReachesNamed d (lent_operation x))) mid c.in_ok-check_operation.ensures.noted)),
       lent_more at.yielded x (operations d) left rest c.in-Some.ensures.steps at.invariant.2,
     )

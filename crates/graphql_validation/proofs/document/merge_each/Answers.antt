@@ -12,7 +12,7 @@ use Rattle.rule_fragments.specs.in_typed_operations.DocumentView.{document_meant
 use Rattle.rule_merging.specs.Merged.{MergingTold}
 use Rattle.rule_merging.specs.Merger.{merger_of}
 use Rattle.graphql_validation.proofs.MergedOperations.{merging_none, merging_more, so_far_none, so_far_more}
-use Rattle.rule_fragments.proofs.Operations.{lent_operation, lent_operations, all_operations, one_behind, lent_more, lent_all, lent_among}
+use Rattle.rule_fragments.proofs.Operations.{lent_operation, lent_operations, all_operations, one_after, lent_more, lent_all, lent_among}
 use Rattle.graphql_validation.proofs.document.merge_each.Goals as goal
 
 pub loop-operation-init : goal.loop-operation-init
@@ -58,7 +58,7 @@ loop-operation-preserved c =
       merging_more s d [] mid new o among at.invariant.0 told,
       (
         so_far_more s d [] mid new (lent_operations at.yielded) (lent_operations (at.yielded ++ x ∷ [])) o was (merger_of c.validate_operation.new.self).is_clean
-            (one_behind at.yielded x) at.invariant.0 at.invariant.1.0 told merges h.clean,
+            (one_after at.yielded x) at.invariant.0 at.invariant.1.0 told merges h.clean,
         (
           h.schema ∙ at.invariant.1.1.0,
           (

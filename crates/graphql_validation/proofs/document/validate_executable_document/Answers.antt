@@ -3,7 +3,7 @@ use Rattle.rule_fragments.specs.in_schema.declared.schema.Schema.{Schema}
 use Rattle.rule_fragments.specs.in_schema.SchemaOf.{schema_tree}
 use Rattle.rule_fragments.specs.in_typed_operations.DocumentView.{document_meant}
 use Rattle.rule_merging.specs.in_faults.DetailsView.{diagnostics_of}
-use Rattle.rule_merging.proofs.Behind.{begins_same, refused_so}
+use Rattle.rule_merging.proofs.After.{begins_same, refused_so}
 use Rattle.graphql_validation.specs.TellsDocument.{TypedDocumentTold, SilenceMeansValid, ValidMeansSilence}
 use Rattle.graphql_validation.proofs.document.validate_executable_document.Goals as goal
 

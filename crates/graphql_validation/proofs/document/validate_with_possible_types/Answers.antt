@@ -10,7 +10,7 @@ use Rattle.rule_fragments.specs.in_schema.declared.schema.Schema.{Schema}
 use Rattle.graphql_validation.specs.OperationChecks.{TellsMerging, AllMerge}
 use Rattle.graphql_validation.specs.Operations.{all_told}
 use Rattle.graphql_validation.specs.TellsDocument.{IsTypedUnder, TellsDocument}
-use Rattle.rule_merging.proofs.Behind.{begins_same, refused_so}
+use Rattle.rule_merging.proofs.After.{begins_same, refused_so}
 use Rattle.rule_definitions.specs.Room.{most_told}
 use Rattle.graphql_validation.proofs.FirstTold.{none_told}
 use Rattle.graphql_validation.proofs.Once.{once_first, told_once}

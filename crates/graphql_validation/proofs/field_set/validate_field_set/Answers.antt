@@ -12,7 +12,7 @@ use Rattle.rule_definitions.specs.Room.{most_told}
 use Rattle.graphql_validation.specs.Operations.{all_told}
 use Rattle.graphql_validation.proofs.Once.{told_once, none_once}
 use Rattle.graphql_validation.proofs.FieldSets.{told_of_set, silent_set, valid_set}
-use Rattle.rule_merging.proofs.Behind.{begins_same, refused_so}
+use Rattle.rule_merging.proofs.After.{begins_same, refused_so}
 use Rattle.graphql_validation.proofs.field_set.validate_field_set.Goals as goal
 
 pub returns-in_err-document-clause-begins : goal.returns-in_err-document-clause-begins

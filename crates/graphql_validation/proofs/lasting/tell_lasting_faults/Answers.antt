@@ -9,7 +9,7 @@ use Rattle.rule_fragments.specs.in_schema.SchemaOf.{schema_tree}
 use Rattle.graphql_validation.specs.Lasts.{broken_lasts}
 use Rattle.graphql_validation.proofs.Filtered.{filter_view}
 use Rattle.graphql_validation.specs.Operations.{all_told}
-use Rattle.rule_merging.proofs.Behind.{begins_same, refused_so}
+use Rattle.rule_merging.proofs.After.{begins_same, refused_so}
 use Rattle.graphql_validation.proofs.StandingFaults.{lasting_told_of}
 use Rattle.graphql_validation.proofs.lasting.tell_lasting_faults.Goals as goal
 

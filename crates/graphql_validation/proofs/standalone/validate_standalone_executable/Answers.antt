@@ -5,7 +5,7 @@ use Rattle.fault_data.specs.FaultView.{faults_of}
 use Rattle.rule_merging.specs.in_faults.DetailsView.{diagnostics_of}
 use Rattle.rule_document_definitions.proofs.UnplacedFragments.{named_if_own}
 use Rattle.rule_fragments.specs.in_reach.Broken.{brokens_of}
-use Rattle.rule_merging.proofs.Behind.{begins_same, refused_so}
+use Rattle.rule_merging.proofs.After.{begins_same, refused_so}
 use Rattle.rule_definitions.specs.Room.{most_told}
 use Rattle.graphql_validation.specs.Operations.{all_told}
 use Rattle.graphql_validation.proofs.Once.{told_once, all_once_told}

@@ -15,7 +15,7 @@ use Rattle.rule_fragments.proofs.in_reach.AtReaches.{some_index}
 use Rattle.graphql_validation.specs.Operations.{OperationFails, ReachesNamed, NotesNames}
 use Rattle.graphql_validation.proofs.Joined.{TellsOf, none_found, more_found, all_found, full_found}
 use Rattle.graphql_validation.proofs.Noting.{notes_none, notes_more, notes_same}
-use Rattle.rule_fragments.proofs.Operations.{lent_operation, lent_operations, all_operations, one_behind, lent_more, lent_all, lent_among}
+use Rattle.rule_fragments.proofs.Operations.{lent_operation, lent_operations, all_operations, one_after, lent_more, lent_all, lent_among}
 use Rattle.graphql_validation.proofs.under_schema.check_operations.Goals as goal
 
 pub loop-operation-init : goal.loop-operation-init
@@ -47,11 +47,11 @@ loop-operation-preserved c =
     let mid : noted_names c.take_faults-before.new.self.used ≡ noted_names at.found.used = ap noted_names c.take_faults-before.ensures.used in
     let last : noted_names c.join.new.self.used ≡ noted_names c.check_operation.new.found.used = ap noted_names c.in_ok-join.ensures.used in
     let among = lent_among at.yielded x (operations d) left rest c.in-Some.ensures.steps at.invariant.3 in (
-      λ in' typed possible. more_found (λ o. OperationFails d o s) {Right = λ f. AtOperation d (λ o. OperationFails d o s f)} before own new xs all (lent_operation x) (one_behind at.yielded x) (λ f fails. (lent_operation x, (among, fails)))
+      λ in' typed possible. more_found (λ o. OperationFails d o s) {Right = λ f. AtOperation d (λ o. OperationFails d o s f)} before own new xs all (lent_operation x) (one_after at.yielded x) (λ f fails. (lent_operation x, (among, fails)))
           (subst (TellsUnlessFull (λ f. AtOperation d (λ o. OperationFails d o s f)) (TellsOf (λ o. OperationFails d o s) xs)) (sym same) (at.invariant.0 in' typed possible))
           (faults_of c.take_faults-before.new.self.faults) (ap (map fault_of) c.take_faults-before.ensures.none)
           (c.in_ok-check_operation.ensures.told d (in' (lent_operation x) among) (typed (lent_operation x) among) (at.invariant.2 possible)) c.in_ok-join.ensures.joined,
-      λ in'. notes_more (λ o n. ReachesNamed d o n) [] (noted_names at.found.used) (noted_names c.join.new.self.used) xs all (lent_operation x) (one_behind at.yielded x) (at.invariant.1 in')
+      λ in'. notes_more (λ o n. ReachesNamed d o n) [] (noted_names at.found.used) (noted_names c.join.new.self.used) xs all (lent_operation x) (one_after at.yielded x) (at.invariant.1 in')
           (subst (λ l. NotesNames (noted_names at.found.used) l (ReachesNamed d (lent_operation x))) (sym last) (subst (λ l. NotesNames l (noted_names c.check_operation.new.found.used) (ReachesNamed d (lent_operation x))) mid (c.in_ok-check_operation.ensures.noted d (in' (lent_operation x) among)))),
       λ possible. c.in_ok-check_operation.ensures.right (at.invariant.2 possible),
       lent_more at.yielded x (operations d) left rest c.in-Some.ensures.steps at.invariant.3,

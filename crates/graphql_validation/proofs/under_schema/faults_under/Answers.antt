@@ -10,7 +10,7 @@ use Rattle.rule_document_definitions.specs.Reached.{AtOperation}
 use Rattle.rule_fragments.specs.in_reach.NotedNames.{noted_names}
 use Rattle.rule_fragments.specs.in_reach.Reach.{meant_fragments}
 use Rattle.rule_fragments.specs.UnlessFull.{HasAll, AddsUnlessFull}
-use Rattle.rule_selections.specs.Settled.{ApplyWhereNoted, StandInEach}
+use Rattle.rule_selections.specs.Settled.{ApplyWhereNoted, MayReplaceInEach}
 use Rattle.graphql_validation.proofs.Settled.{lent_or}
 use Rattle.graphql_validation.specs.Operations.{OperationFails, AllUnder}
 use Rattle.rule_fragments.proofs.UnlessFull.{as_added}
@@ -31,7 +31,7 @@ returns-clause-told c =
     let s = schema_tree c.args.schema.now in
     let d = document_meant c.args.document.now in
     let found = c.in_ok-found.found in
-    let in' = lent_or (λ x. StandInEach s d (meant_fragments x)) c.unwrap_or-fragments.result c.as_ref.result _ c.in_ok-settled.settled c.unwrap_or-fragments.ensures c.as_ref.ensures.value c.in_ok-settled.ensures in
+    let in' = lent_or (λ x. MayReplaceInEach s d (meant_fragments x)) c.unwrap_or-fragments.result c.as_ref.result _ c.in_ok-settled.settled c.unwrap_or-fragments.ensures c.as_ref.ensures.value c.in_ok-settled.ensures in
     let old = faults_of found.faults in
     let all = faults_of c.in_ok-check_fragments.field-0 in
     let used = used_unless_full d old [] (noted_names found.used) refl (c.in_ok-found.ensures.noted in') in

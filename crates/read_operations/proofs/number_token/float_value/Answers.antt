@@ -10,4 +10,4 @@ pub returns : goal.returns
 returns c =
     let goes : next_is is_float (next c.args.tokens.now) ≡ true = cc in
     rw (value_tree_float c.in_ok-new_parsed.field-0)
-    (float_taken (in_file c.args.file) c.args.tokens.now c.skip-text.new.self c.in_ok-new_parsed.field-0.text goes c.skip-text.ensures.behind (c.in_ok-new_parsed.ensures ∙ c.skip-text.ensures.text))
+    (float_taken (in_file c.args.file) c.args.tokens.now c.skip-text.new.self c.in_ok-new_parsed.field-0.text goes c.skip-text.ensures.following (c.in_ok-new_parsed.ensures ∙ c.skip-text.ensures.text))

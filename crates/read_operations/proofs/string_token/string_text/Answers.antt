@@ -11,12 +11,12 @@ use Rattle.read_operations.proofs.string_token.string_text.Goals as goal
 pub returns-then-next_is : goal.returns-then-next_is
 returns-then-next_is c =
     let goes : next_is (is String) (next c.args.tokens.now) ≡ true = cc in
-    quoted_taken c.args.tokens.now c.skip-text.new.self (string_bytes c.in_ok-string_value.field-0) goes c.skip-text.ensures.behind (c.in_ok-string_value.ensures ∙ ap string_value c.skip-text.ensures.text)
+    quoted_taken c.args.tokens.now c.skip-text.new.self (string_bytes c.in_ok-string_value.field-0) goes c.skip-text.ensures.following (c.in_ok-string_value.ensures ∙ ap string_value c.skip-text.ensures.text)
 
 pub returns-then-next_is-2 : goal.returns-then-next_is-2
 returns-then-next_is-2 c =
     let goes : next_is is_block_string (next c.args.tokens.now) ≡ true = cc in
-    block_taken c.args.tokens.now c.skip-text-then-next_is-2.new.self (string_bytes c.in_ok-block_value.field-0) goes c.skip-text-then-next_is-2.ensures.behind (c.in_ok-block_value.ensures ∙ ap block_value c.skip-text-then-next_is-2.ensures.text)
+    block_taken c.args.tokens.now c.skip-text-then-next_is-2.new.self (string_bytes c.in_ok-block_value.field-0) goes c.skip-text-then-next_is-2.ensures.following (c.in_ok-block_value.ensures ∙ ap block_value c.skip-text-then-next_is-2.ensures.text)
 
 pub returns : goal.returns
 returns c =

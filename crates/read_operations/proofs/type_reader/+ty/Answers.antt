@@ -18,5 +18,5 @@ ty-returns-then-not-next_is t c =
 pub ty-returns : goal.ty-returns
 ty-returns t c =
     let marked : next_is is_bang (next c.unmarked.new.tokens) ≡ true = cc in
-    rw c.skip.ensures.behind
+    rw c.skip.ensures.following
     (type_marked (in_file c.args.file) c.args.depth c.args.tokens.now c.unmarked.new.tokens (type_tree c.in_ok-found.found) (type_tree c.non_null.result) c.in_ok-found.ensures marked c.non_null.ensures)

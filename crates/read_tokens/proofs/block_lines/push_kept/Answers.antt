@@ -18,24 +18,24 @@ lines-init c =
 
 pub push_line-requires : goal.push_line-requires
 push_line-requires c =
-    let cut : Cut c.lines.left.now c.first_line-line.result.now c.behind_line-behind.result.now =
-    subst (λ (line : List ℕ). Cut c.lines.left.now line c.behind_line-behind.result.now) (sym c.first_line-line.ensures.line) c.behind_line-behind.ensures.cut in
-    ready_first c.args.indent c.lines.more c.lines.left.now c.first_line-line.result.now c.behind_line-behind.result.now cut c.lines.invariant.ready
+    let cut : Cut c.lines.left.now c.first_line-line.result.now c.after_line-following.result.now =
+    subst (λ (line : List ℕ). Cut c.lines.left.now line c.after_line-following.result.now) (sym c.first_line-line.ensures.line) c.after_line-following.ensures.cut in
+    ready_first c.args.indent c.lines.more c.lines.left.now c.first_line-line.result.now c.after_line-following.result.now cut c.lines.invariant.ready
 
 pub lines-preserved : goal.lines-preserved
 lines-preserved c =
-    let cut : Cut c.lines.left.now c.first_line-line.result.now c.behind_line-behind.result.now =
-    subst (λ (line : List ℕ). Cut c.lines.left.now line c.behind_line-behind.result.now) (sym c.first_line-line.ensures.line) c.behind_line-behind.ensures.cut in
+    let cut : Cut c.lines.left.now c.first_line-line.result.now c.after_line-following.result.now =
+    subst (λ (line : List ℕ). Cut c.lines.left.now line c.after_line-following.result.now) (sym c.first_line-line.ensures.line) c.after_line-following.ensures.cut in
     let k : ℕ = c.args.indent in
     let m : ℕ = c.lines.more - 1 in
     let e : c.lines.more ≡ suc m = omega arith in
-    let behind : List ℕ = c.behind_line-behind.result.now in
+    let following : List ℕ = c.after_line-following.result.now in
     let line : List ℕ = c.first_line-line.result.now in
     record {
-      text = c.behind_line-behind.utf8;
-      ready = ready_more k c.lines.more m c.lines.left.now line behind cut e c.lines.invariant.ready;
-      so_far = ap (λ (bytes : List ℕ). bytes ++ further_lines k (take m (lines_of behind))) c.in_ok-push_line.ensures
-          ∙ append_assoc (string_bytes c.lines.out) (10 ∷ drop k line) (further_lines k (take m (lines_of behind)))
-          ∙ ap (λ (bytes : List ℕ). string_bytes c.lines.out ++ bytes) (sym (further_more k c.lines.more m c.lines.left.now line behind cut e c.lines.invariant.ready))
+      text = c.after_line-following.utf8;
+      ready = ready_more k c.lines.more m c.lines.left.now line following cut e c.lines.invariant.ready;
+      so_far = ap (λ (bytes : List ℕ). bytes ++ further_lines k (take m (lines_of following))) c.in_ok-push_line.ensures
+          ∙ append_assoc (string_bytes c.lines.out) (10 ∷ drop k line) (further_lines k (take m (lines_of following)))
+          ∙ ap (λ (bytes : List ℕ). string_bytes c.lines.out ++ bytes) (sym (further_more k c.lines.more m c.lines.left.now line following cut e c.lines.invariant.ready))
           ∙ c.lines.invariant.so_far;
     }

@@ -1,6 +1,6 @@
 use Rattle.std.proofs.Common.{◌≡◌, ℕ, drop, take, length, sym, ◌∙◌, subst, Some}
 use Rattle.read_tokens.specs.Tokens.{token_at}
-use Rattle.read_tokens.proofs.Ends.{goes_on_behind}
+use Rattle.read_tokens.proofs.Ends.{goes_on_after}
 use Rattle.read_tokens.proofs.Rests.{nothing_there, token_is}
 use Rattle.read_tokens.proofs.next.next_token.Goals as goal
 
@@ -19,4 +19,4 @@ pub returns-clause-goes_on : goal.returns-clause-goes_on
 returns-clause-goes_on c =
     let token = c.token_text.result.now in
     let is = token_is (drop c.past_ignored-at.result c.args.text.now) c.in-Some.kind c.in-Some.length token (sym c.token_from.ensures ∙ c.in-Some.is) c.token_text.ensures in
-    goes_on_behind c.args.text.now c.past_ignored-at.result (c.in-Some.kind, length token) is.0 c.utf8.text
+    goes_on_after c.args.text.now c.past_ignored-at.result (c.in-Some.kind, length token) is.0 c.utf8.text

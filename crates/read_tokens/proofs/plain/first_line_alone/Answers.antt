@@ -8,6 +8,6 @@ pub returns-then-is_space_alone : goal.returns-then-is_space_alone
 returns-then-is_space_alone c =
     let raw : List ℕ = c.args.raw.now in
     let length : ℕ = c.args.length in
-    let behind : c.split_at.result.1.now ≡ drop length raw = c.split_at.ensures.back ∙ ap (drop length) c.as_bytes.ensures.value in
-    let alone : list_all is_space (drop length raw) ≡ true = ap (list_all is_space) (sym behind) ∙ sym c.is_space_alone.ensures ∙ c.if-is_space_alone.true in
+    let following : c.split_at.result.1.now ≡ drop length raw = c.split_at.ensures.back ∙ ap (drop length) c.as_bytes.ensures.value in
+    let alone : list_all is_space (drop length raw) ≡ true = ap (list_all is_space) (sym following) ∙ sym c.is_space_alone.ensures ∙ c.if-is_space_alone.true in
     first_piece raw length c.requires.length c.requires.full alone c.utf8.raw

@@ -11,7 +11,7 @@ returns-then-is_space_alone c =
     let start : ℕ = c.space_len-start.result in
     let length : ℕ = c.line_len-length.result in
     let rest : c.split_at.result.1.now ≡ drop start raw = c.split_at.ensures.back ∙ ap (drop start) c.as_bytes-2.ensures.value in
-    let behind : c.split_at-2.result.1.now ≡ drop length (drop start raw) = c.split_at-2.ensures.back ∙ ap (drop length) rest in
-    let alone : list_all is_space (drop length (drop start raw)) ≡ true = ap (list_all is_space) (sym behind) ∙ sym c.is_space_alone.ensures ∙ c.if-is_space_alone.true in
+    let following : c.split_at-2.result.1.now ≡ drop length (drop start raw) = c.split_at-2.ensures.back ∙ ap (drop length) rest in
+    let alone : list_all is_space (drop length (drop start raw)) ≡ true = ap (list_all is_space) (sym following) ∙ sym c.is_space_alone.ensures ∙ c.if-is_space_alone.true in
     later_piece raw start length (c.space_len-start.ensures.count ∙ ap (prefix_len is_space) c.as_bytes.ensures.value)
     (c.line_len-length.ensures.count ∙ ap (prefix_len is_in_line) rest) c.if-start-raw.true c.requires alone c.utf8.raw

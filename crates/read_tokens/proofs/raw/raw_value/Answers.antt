@@ -15,20 +15,20 @@ characters-init c = record {
 pub characters-smaller : goal.characters-smaller
 characters-smaller c =
     let begins : Begins c.characters.rest.now = begins_now c.characters.rest.now c.characters.invariant.begins (sym c.is_empty.ensures ∙ c.characters-test.true) in
-    let less = piece_shorter block_character_at character_ends c.characters.rest.now c.in_ok-behind.behind.now begins c.in_ok-behind.ensures.rest in
-    let within = plain_within c.in_ok-behind.behind.now c.in_ok-next.next.now c.in_ok-next.ensures.rest in
+    let less = piece_shorter block_character_at character_ends c.characters.rest.now c.in_ok-following.following.now begins c.in_ok-following.ensures.rest in
+    let within = plain_within c.in_ok-following.following.now c.in_ok-next.next.now c.in_ok-next.ensures.rest in
     omega arith
 
 pub characters-preserved : goal.characters-preserved
 characters-preserved c =
     let begins : Begins c.characters.rest.now = begins_now c.characters.rest.now c.characters.invariant.begins (sym c.is_empty.ensures ∙ c.characters-test.true) in
-    let utf8 = piece_utf8 block_character_at character_ends c.characters.rest.now c.in_ok-behind.behind.now begins c.in_ok-behind.ensures.rest c.characters.invariant.text in
-    let one = piece_so_far block_character_at character_ends (string_bytes c.characters.out) (string_bytes c.push_character.new.out) c.characters.rest.now c.in_ok-behind.behind.now begins c.in_ok-behind.ensures.pushed c.in_ok-behind.ensures.rest in
-    let two = plain_so_far block_character_at block_keeps (string_bytes c.push_character.new.out) (string_bytes c.push_plain-in-characters.new.out) c.in_ok-behind.behind.now c.in_ok-next.next.now c.in_ok-next.ensures.pushed c.in_ok-next.ensures.rest in
+    let utf8 = piece_utf8 block_character_at character_ends c.characters.rest.now c.in_ok-following.following.now begins c.in_ok-following.ensures.rest c.characters.invariant.text in
+    let one = piece_so_far block_character_at character_ends (string_bytes c.characters.out) (string_bytes c.push_character.new.out) c.characters.rest.now c.in_ok-following.following.now begins c.in_ok-following.ensures.pushed c.in_ok-following.ensures.rest in
+    let two = plain_so_far block_character_at block_keeps (string_bytes c.push_character.new.out) (string_bytes c.push_plain-in-characters.new.out) c.in_ok-following.following.now c.in_ok-next.next.now c.in_ok-next.ensures.pushed c.in_ok-next.ensures.rest in
     record {
-      text = plain_utf8 c.in_ok-behind.behind.now c.in_ok-next.next.now c.in_ok-next.ensures.rest utf8;
+      text = plain_utf8 c.in_ok-following.following.now c.in_ok-next.next.now c.in_ok-next.ensures.rest utf8;
       so_far = two ∙ one ∙ c.characters.invariant.so_far;
-      begins = plain_begins c.in_ok-behind.behind.now c.in_ok-next.next.now c.in_ok-next.ensures.rest;
+      begins = plain_begins c.in_ok-following.following.now c.in_ok-next.next.now c.in_ok-next.ensures.rest;
     }
 
 pub returns : goal.returns

@@ -15,20 +15,20 @@ parts-init c = record {
 pub parts-smaller : goal.parts-smaller
 parts-smaller c =
     let begins : Begins c.parts.rest.now = begins_now c.parts.rest.now c.parts.invariant.begins (sym c.is_empty.ensures ∙ c.parts-test.true) in
-    let less = piece_shorter part_at part_ends c.parts.rest.now c.in_ok-behind.behind.now begins c.in_ok-behind.ensures.rest in
-    let within = plain_within c.in_ok-behind.behind.now c.in_ok-next.next.now c.in_ok-next.ensures.rest in
+    let less = piece_shorter part_at part_ends c.parts.rest.now c.in_ok-following.following.now begins c.in_ok-following.ensures.rest in
+    let within = plain_within c.in_ok-following.following.now c.in_ok-next.next.now c.in_ok-next.ensures.rest in
     omega arith
 
 pub parts-preserved : goal.parts-preserved
 parts-preserved c =
     let begins : Begins c.parts.rest.now = begins_now c.parts.rest.now c.parts.invariant.begins (sym c.is_empty.ensures ∙ c.parts-test.true) in
-    let utf8 = piece_utf8 part_at part_ends c.parts.rest.now c.in_ok-behind.behind.now begins c.in_ok-behind.ensures.rest c.parts.invariant.text in
-    let one = piece_so_far part_at part_ends (string_bytes c.parts.out) (string_bytes c.push_part.new.out) c.parts.rest.now c.in_ok-behind.behind.now begins c.in_ok-behind.ensures.pushed c.in_ok-behind.ensures.rest in
-    let two = plain_so_far part_at part_keeps (string_bytes c.push_part.new.out) (string_bytes c.push_plain-in-parts.new.out) c.in_ok-behind.behind.now c.in_ok-next.next.now c.in_ok-next.ensures.pushed c.in_ok-next.ensures.rest in
+    let utf8 = piece_utf8 part_at part_ends c.parts.rest.now c.in_ok-following.following.now begins c.in_ok-following.ensures.rest c.parts.invariant.text in
+    let one = piece_so_far part_at part_ends (string_bytes c.parts.out) (string_bytes c.push_part.new.out) c.parts.rest.now c.in_ok-following.following.now begins c.in_ok-following.ensures.pushed c.in_ok-following.ensures.rest in
+    let two = plain_so_far part_at part_keeps (string_bytes c.push_part.new.out) (string_bytes c.push_plain-in-parts.new.out) c.in_ok-following.following.now c.in_ok-next.next.now c.in_ok-next.ensures.pushed c.in_ok-next.ensures.rest in
     record {
-      text = plain_utf8 c.in_ok-behind.behind.now c.in_ok-next.next.now c.in_ok-next.ensures.rest utf8;
+      text = plain_utf8 c.in_ok-following.following.now c.in_ok-next.next.now c.in_ok-next.ensures.rest utf8;
       so_far = two ∙ one ∙ c.parts.invariant.so_far;
-      begins = plain_begins c.in_ok-behind.behind.now c.in_ok-next.next.now c.in_ok-next.ensures.rest;
+      begins = plain_begins c.in_ok-following.following.now c.in_ok-next.next.now c.in_ok-next.ensures.rest;
     }
 
 pub returns : goal.returns

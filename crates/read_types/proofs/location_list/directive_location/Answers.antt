@@ -24,4 +24,4 @@ returns c =
     let goes : next_is is_location (next c.args.tokens.now) ≡ true = cc in
     taken_yes (λ t. location_of t.text) is_location c.args.tokens.now c.location_named.result goes
     (λ t ts at. c.location_named.ensures ∙ ap location_of (c.skip-text.ensures.text ∙ ap text_of at))
-    ∙ ap (λ (z : Input). done c.location_named.result z) (sym c.skip-text.ensures.behind)
+    ∙ ap (λ (z : Input). done c.location_named.result z) (sym c.skip-text.ensures.following)

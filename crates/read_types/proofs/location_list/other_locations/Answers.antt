@@ -9,15 +9,15 @@ use Rattle.read_grammar.specs.TypeSystemReading as reading
 use Rattle.read_grammar.proofs.Steady as st
 use Rattle.read_grammar.proofs.Steady.{Steady}
 use Rattle.read_grammar.proofs.Steps.{turn, turn_stops_with, turns_end, turn_takes}
-use Rattle.read_types.proofs.Separated.{behind_steady}
+use Rattle.read_types.proofs.Separated.{after_steady}
 use Rattle.read_types.proofs.location_list.other_locations.Goals as goal
 
 location : Steady 1 reading.directive_location reading.directive_location
 unfolding reading.directive_location
 location = st.mapped (λ t. location_of t.text) (st.token kinds.is_location)
 
-item : Steady 1 (read.behind kinds.is_pipe reading.directive_location) (read.behind kinds.is_pipe reading.directive_location)
-item = behind_steady kinds.is_pipe location
+item : Steady 1 (read.following kinds.is_pipe reading.directive_location) (read.following kinds.is_pipe reading.directive_location)
+item = after_steady kinds.is_pipe location
 
 pub turns-smaller : goal.turns-smaller
 turns-smaller c = turn_takes kinds.is_pipe item c.turns.tokens c.next_location.new.tokens c.in_ok-next_location.field-0 c.in_ok-next_location.ensures

@@ -7,7 +7,7 @@ use Rattle.read_types.specs.MemberSteps as steps
 use Rattle.read_types.proofs.location_list.other_locations.Given as goal
 
 abbrev pub invariant-turns : goal.invariant-turns
-invariant-turns l = with_front l.found.items (read.many kinds.is_pipe (read.behind kinds.is_pipe reading.directive_location) l.tokens) ≡ steps.others kinds.is_pipe reading.directive_location l.initial.found.items l.initial.tokens
+invariant-turns l = with_front l.found.items (read.many kinds.is_pipe (read.following kinds.is_pipe reading.directive_location) l.tokens) ≡ steps.others kinds.is_pipe reading.directive_location l.initial.found.items l.initial.tokens
 
 abbrev pub decreases-turns : goal.decreases-turns
 decreases-turns l = length l.tokens.ahead

@@ -13,11 +13,11 @@ use Rattle.read_grammar.proofs.Steady.{Steady}
 use Rattle.read_grammar.proofs.Steps.{viewed_turn, turn_stops_with, turns_end, turn_takes}
 use Rattle.read_grammar.proofs.Values.{name_parses}
 use Rattle.read_operations.specs.Meanings.{in_file}
-use Rattle.read_types.proofs.Separated.{behind_steady}
+use Rattle.read_types.proofs.Separated.{after_steady}
 use Rattle.read_types.proofs.name_list.other_names.Goals as goal
 
-item : (file : FileId) (mark : Terminal) → Steady 1 (read.behind (kinds.is mark) (values.name (in_file file))) (read.behind (kinds.is mark) (values.name (in_file file)))
-item file mark = behind_steady (kinds.is mark) (name_parses (in_file file) {n = 0}).steady
+item : (file : FileId) (mark : Terminal) → Steady 1 (read.following (kinds.is mark) (values.name (in_file file))) (read.following (kinds.is mark) (values.name (in_file file)))
+item file mark = after_steady (kinds.is mark) (name_parses (in_file file) {n = 0}).steady
 
 pub turns-smaller : goal.turns-smaller
 turns-smaller c = turn_takes (kinds.is c.args.mark) (item c.args.file c.args.mark) c.turns.tokens c.next_name.new.tokens (name_tree c.in_ok-next_name.field-0) c.in_ok-next_name.ensures

@@ -11,7 +11,7 @@ use Rattle.read_types.proofs.name_list.other_names.Given as goal
 
 abbrev pub invariant-turns : goal.invariant-turns
 invariant-turns l =
-    with_front (map name_tree l.found.items) (read.many (kinds.is l.mark) (read.behind (kinds.is l.mark) (values.name (in_file l.file))) l.tokens)
+    with_front (map name_tree l.found.items) (read.many (kinds.is l.mark) (read.following (kinds.is l.mark) (values.name (in_file l.file))) l.tokens)
     ≡ steps.others (kinds.is l.mark) (values.name (in_file l.file)) (map name_tree l.initial.found.items) l.initial.tokens
 
 abbrev pub decreases-turns : goal.decreases-turns

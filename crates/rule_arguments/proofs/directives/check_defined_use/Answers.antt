@@ -16,7 +16,7 @@ use Rattle.rule_arguments.specs.Trees.{arguments_of}
 use Rattle.rule_arguments.specs.UseFaults.{unsupported_location}
 use Rattle.rule_values.proofs.in_fault_data.Adding.{gains_both, gains_list}
 use Rattle.rule_values.proofs.in_fault_data.Judgings.{directive_look}
-use Rattle.rule_arguments.proofs.Uses.{same_taker, stands_in, lists_unsupported_location}
+use Rattle.rule_arguments.proofs.Uses.{same_taker, lies_in, lists_unsupported_location}
 use Rattle.rule_arguments.proofs.directives.check_defined_use.Goals as goal
 
 pub arguments_of_directive-defined-requires : goal.arguments_of_directive-defined-requires
@@ -40,5 +40,5 @@ returns c =
     (λ h. gains_both a b (faults_of c.check_taken.new.faults)
     (gains_list a b (unsupported_location u.0 e c.args.location d) u.1.1
     (lists_unsupported_location s vs (directive_look s) c.args.location d e c.requires u.0 u.1.0))
-    (subst (λ (t : Taker Place). Adds c.unsupported_location.new.faults c.check_taken.new.faults (TakerBreaks (place_at s) (judged s) vs t)) taker (h (place_at s) (stands_in s _ stands))))
+    (subst (λ (t : Taker Place). Adds c.unsupported_location.new.faults c.check_taken.new.faults (TakerBreaks (place_at s) (judged s) vs t)) taker (h (place_at s) (lies_in s _ stands))))
     c.check_taken.ensures

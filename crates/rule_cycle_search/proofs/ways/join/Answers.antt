@@ -11,7 +11,7 @@ use Rattle.rule_cycle_search.proofs.ways.join.Goals.{in-Some+then-contains, in_d
 pub loop-node-preserved : goal.loop-node-preserved
 loop-node-preserved c =
     let i = c.loop-node.invariant in
-    let out : Contains c.args.behind.now c.in-Some.node → ⊥ = contains_false c.args.behind.now c.in-Some.node (sym c.contains.ensures.value ∙ c.if-contains.false) in
+    let out : Contains c.args.following.now c.in-Some.node → ⊥ = contains_false c.args.following.now c.in-Some.node (sym c.contains.ensures.value ∙ c.if-contains.false) in
     let was = c.pop.ensures.items ∙ ap (λ o. c.pop.new.self.items ++ option_to_list o) c.in-Some.is in (
       c.in-Some.node ∷ i.0,
       (
@@ -21,7 +21,7 @@ loop-node-preserved c =
           (
             elim (Contains-append_cases c.pop.new.self.items (c.in-Some.node ∷ []) i.1.1.0 (subst (λ l. Contains l i.1.1.0) was i.1.1.1.0)) [
               | inl a ↦ a
-              | inr b ↦ absurd (out (subst (Contains c.args.behind.now) (only c.in-Some.node i.1.1.0 b) i.1.1.1.1))
+              | inr b ↦ absurd (out (subst (Contains c.args.following.now) (only c.in-Some.node i.1.1.0 b) i.1.1.1.1))
             ],
             i.1.1.1.1,
           ),
@@ -42,7 +42,7 @@ returns c =
             i.0,
             (
               popped c.args.ahead.now.items c.loop-node.ahead.items c.pop.new.self.items i.0 c.pop.result w.in-Some.node c.pop.ensures.items w.in-Some.is i.1.0,
-              (contains_true c.args.behind.now w.in-Some.node (sym w.contains.ensures.value ∙ w.if-contains.true), is ∙ ap (λ l. c.pop.new.self.items ++ l) c.reverse.ensures.after),
+              (contains_true c.args.following.now w.in-Some.node (sym w.contains.ensures.value ∙ w.if-contains.true), is ∙ ap (λ l. c.pop.new.self.items ++ l) c.reverse.ensures.after),
             ),
           ),
         ),

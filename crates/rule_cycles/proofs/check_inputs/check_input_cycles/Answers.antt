@@ -11,7 +11,7 @@ use Rattle.rule_cycles.specs.Trees.{schema_of}
 use Rattle.rule_cycles.proofs.Telling.{TellsRoots-none, TellsRoots-more}
 use Rattle.rule_cycles.proofs.InputsTold.{inputs_told}
 use Rattle.rule_cycles.proofs.check_inputs.check_input_cycles.Goals as goal
-use Rattle.rule_cycles.proofs.check_inputs.check_input_cycles.Goals.{in-Nothing, in-WayBack+in_ok-recursive_input_object_definition-in-WayBack, in-Deep+in_ok-deeply_nested_input_object-in-Deep}
+use Rattle.rule_cycles.proofs.check_inputs.check_input_cycles.Goals.{in-Nothing, in-Cycle+in_ok-recursive_input_object_definition-in-Cycle, in-Deep+in_ok-deeply_nested_input_object-in-Deep}
 
 pub loop-root-init : goal.loop-root-init
 loop-root-init c = TellsRoots-none (TellsInput (schema_of c.args.judging.now)) (TellsDeepInput (schema_of c.args.judging.now)) c.in_ok-references.references.graph (faults_of c.args.faults.now)
@@ -28,11 +28,11 @@ loop-root-preserved c =
     elim c.match-found.branch [
       | in-Nothing w ↦
           more (faults_of c.match-found.faults) (inl (ap faults_of w.faults-is, subst (λ (f : Found). Finds g c.loop-root.root f) w.in-Nothing.is finds))
-      | in-WayBack+in_ok-recursive_input_object_definition-in-WayBack w ↦
-          let path = w.in-WayBack.path.items in
-          let told = w.in_ok-recursive_input_object_definition-in-WayBack.ensures in
+      | in-Cycle+in_ok-recursive_input_object_definition-in-Cycle w ↦
+          let path = w.in-Cycle.path.items in
+          let told = w.in_ok-recursive_input_object_definition-in-Cycle.ensures in
           let along = subst (λ l. TellsInput s c.loop-root.root l told.0) w.deref.ensures.value told.1.0 in
-          more (faults_of c.match-found.faults) (inr (told.0, (inl (path, (subst (λ (f : Found). Finds g c.loop-root.root f) w.in-WayBack.is finds, along)), ap faults_of w.faults-is ∙ told.1.1)))
+          more (faults_of c.match-found.faults) (inr (told.0, (inl (path, (subst (λ (f : Found). Finds g c.loop-root.root f) w.in-Cycle.is finds, along)), ap faults_of w.faults-is ∙ told.1.1)))
       | in-Deep+in_ok-deeply_nested_input_object-in-Deep w ↦
           let told = w.in_ok-deeply_nested_input_object-in-Deep.ensures in
           more (faults_of c.match-found.faults) (inr (told.0, (inr (subst (λ (f : Found). Finds g c.loop-root.root f) w.in-Deep.is finds, told.1.0), ap faults_of w.faults-is ∙ told.1.1)))

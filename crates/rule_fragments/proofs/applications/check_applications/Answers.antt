@@ -7,11 +7,11 @@ use Rattle.rule_fragments.specs.Possible.{ArePossible, ArePossibleIfFound}
 use Rattle.rule_fragments.proofs.Spread.{gains_applications, gains_on_their_types}
 use Rattle.rule_fragments.proofs.applications.check_applications.Goals as goal
 
-pub returns-then-all_stand_on_their_types-clause-told : goal.returns-then-all_stand_on_their_types-clause-told
-returns-then-all_stand_on_their_types-clause-told c = λ d o reach same possible.
+pub returns-then-all_are_on_their_types-clause-told : goal.returns-then-all_are_on_their_types-clause-told
+returns-then-all_are_on_their_types-clause-told c = λ d o reach same possible.
     let r = c.args.reach.now in
     gains_on_their_types d o (reached_members r) (reached_fragments_of r) reach (schema_tree c.args.schema.now) (meant_fragments c.args.fragments.now) same
-    (sym c.all_stand_on_their_types.ensures ∙ c.if-all_stand_on_their_types.true)
+    (sym c.all_are_on_their_types.ensures ∙ c.if-all_are_on_their_types.true)
     (faults_of c.args.faults.now) (faults_of c.check_targets.new.faults) (c.in_ok-check_targets.ensures d o reach)
 
 pub returns-clause-told : goal.returns-clause-told

@@ -9,10 +9,10 @@ use Rattle.rule_document_definitions.specs.Selected.{operations}
 use Rattle.rule_document_definitions.specs.Subscriptions.{SubscriptionBreaks}
 use Rattle.rule_selection_queries.specs.in_reach.Broken.{brokens_of}
 use Rattle.rule_fragments.specs.Documents.{SomeSubscriptionBreaks}
-use Rattle.rule_fragments.specs.Thinned.{StandIn}
+use Rattle.rule_fragments.specs.Thinned.{MayReplace}
 use Rattle.rule_fragments.specs.UnlessFull.{HasAll}
 use Rattle.rule_fragments.proofs.Lent.{lent_or}
-use Rattle.rule_fragments.proofs.Operations.{lent_operation, lent_operations, all_operations, one_behind, lent_more, lent_all, lent_among}
+use Rattle.rule_fragments.proofs.Operations.{lent_operation, lent_operations, all_operations, one_after, lent_more, lent_all, lent_among}
 use Rattle.rule_fragments.proofs.UnlessFull.{each_none, each_more, exactly_one, each_exactly, adds_by, adds_full}
 use Rattle.rule_fragments.proofs.documents.check_subscriptions.Goals as goal
 
@@ -34,9 +34,9 @@ loop-operation-preserved c =
     let mid = brokens_of at.breaches in
     let new = brokens_of c.check_subscription.new.breaches in
     let among = lent_among at.yielded x (operations d) left rest c.in-Some.ensures.steps at.invariant.1 in
-    let in' = lent_or (λ (x : ExecutableDocument). StandIn false d.fragments (document_meant x).fragments) c.unwrap_or-thin.result c.as_ref.result _ c.in_ok-thin.thin c.unwrap_or-thin.ensures c.as_ref.ensures.value c.in_ok-thin.ensures in (
+    let in' = lent_or (λ (x : ExecutableDocument). MayReplace false d.fragments (document_meant x).fragments) c.unwrap_or-thin.result c.as_ref.result _ c.in_ok-thin.thin c.unwrap_or-thin.ensures c.as_ref.ensures.value c.in_ok-thin.ensures in (
       λ own. each_more (SubscriptionBreaks d) (λ (o : MeantOperation Place) (f g : Broken Place). f ≡ g) {Right = SomeSubscriptionBreaks d} (brokens_of c.args.breaches.now) mid new
-          (lent_operations at.yielded) (lent_operations (at.yielded ++ x ∷ [])) (lent_operation x) (one_behind at.yielded x) (at.invariant.0 own)
+          (lent_operations at.yielded) (lent_operations (at.yielded ++ x ∷ [])) (lent_operation x) (one_after at.yielded x) (at.invariant.0 own)
           (exactly_one (SubscriptionBreaks d) mid new (operations d) (lent_operation x) among (c.in_ok-check_subscription.ensures own in')),
       lent_more at.yielded x (operations d) left rest c.in-Some.ensures.steps at.invariant.1,
     )

@@ -7,7 +7,7 @@ use Rattle.schema_types.specs.Addresses.{under}
 use Rattle.rule_reach.specs.Reach.{meant_fragments}
 use Rattle.rule_reach.proofs.Found.{meant_node, found_under}
 use Rattle.rule_fragments.specs.SpreadViews.{fragment_meant}
-use Rattle.rule_fragments.proofs.Instead.{meant_entries, Replaced, replaced, stand_in_more}
+use Rattle.rule_fragments.proofs.Instead.{meant_entries, Replaced, replaced, replaces_more}
 use Rattle.rule_fragments.proofs.thinned.thin.Goals as goal
 
 pub returns : goal.returns
@@ -20,5 +20,5 @@ returns c = λ in'.
     let new = c.insert.new.self in
     let found = sym (ap (option_map meant_node) c.in-Some.ensures.value ∙ found_under c.args.fragments.now name) in
     let entries = c.in_ok-insert.ensures.entries ∙ ap (λ n. insert_entry (same_text name_text) old.entries n v) c.in_ok-name.ensures.same in
-    stand_in_more c.args.deferred fs (meant_fragments old) (meant_fragments new) name (fragment_meant f) v found c.in_ok-thinned_fragment.ensures
+    replaces_more c.args.deferred fs (meant_fragments old) (meant_fragments new) name (fragment_meant f) v found c.in_ok-thinned_fragment.ensures
     (λ n. subst (λ es. Replaced name v n (under n (meant_entries es)) (under n (meant_fragments old))) (sym entries) (replaced name v n old.entries)) in'

@@ -6,7 +6,7 @@ use Rattle.graphql_faults.specs.DetailsTree.{of_document}
 use Rattle.graphql_faults.specs.DetailsView.{diagnostics_of}
 use Rattle.rule_field_groups.specs.in_sets.in_reach.Broken.{brokens_of}
 use Rattle.rule_merging.proofs.Verdicts.{conflicts_in_turn}
-use Rattle.rule_merging.proofs.Behind.{begins_kept}
+use Rattle.rule_merging.proofs.After.{begins_kept}
 use Rattle.rule_merging.proofs.merging.append_conflicts.Goals as goal
 
 pub returns-clause-added : goal.returns-clause-added

@@ -7,13 +7,13 @@ use Rattle.rule_reach.specs.Reach.{meant_fragments}
 use Rattle.rule_arguments.specs.in_rule_values.Wanting.{variables_of}
 use Rattle.schema_components.proofs.Places.{not_in_nil}
 use Rattle.rule_selections.specs.Settled.{Terms, AreCommon}
-use Rattle.rule_selections.proofs.Standing.{stand_in_same}
+use Rattle.rule_selections.proofs.Standing.{replaces_itself}
 use Rattle.rule_selections.proofs.settled.settled_fragments.Goals as goal
 
 pub returns-then-len-lt2 : goal.returns-then-len-lt2
 returns-then-len-lt2 c = λ o among.
     let terms : Terms = record { schema = schema_tree c.args.schema.now; variables = [] } in
-    ([], (λ x k. absurd (not_in_nil x k), stand_in_same terms (meant_fragments c.args.document.now.fragments)))
+    ([], (λ x k. absurd (not_in_nil x k), replaces_itself terms (meant_fragments c.args.document.now.fragments)))
 
 pub returns : goal.returns
 returns c = λ o among.

@@ -9,7 +9,7 @@ use Rattle.schema_fold_index.specs.Index.{is_filed_before}
 use Rattle.schema_fold_types.specs.DefinedKinds.{seen_of, collision_faults}
 use Rattle.schema_fold_types.specs.DefinedKindsView.{seen_view}
 use Rattle.schema_fold_types.proofs.Before.{stands_before}
-use Rattle.schema_fold_types.proofs.Behind.{faults_are}
+use Rattle.schema_fold_types.proofs.After.{faults_are}
 use Rattle.schema_fold_index.proofs.Listing.{definitions_more, taken}
 use Rattle.schema_fold_types.proofs.Seeing.{schema_more}
 use Rattle.schema_fold_types.proofs.Turns.{told_definition}

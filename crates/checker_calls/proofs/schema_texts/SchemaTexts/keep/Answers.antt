@@ -6,14 +6,14 @@ use Rattle.tree_definitions.specs.DefinitionTree.{document_tree}
 use Rattle.tree_definitions.specs.Sources.{sources_of}
 use Rattle.verdict_definitions.specs.in_read.ReadFaults.{unnamed_source}
 use Rattle.checker_calls.specs.TextsView.{texts_of, trees_of, all_sources}
-use Rattle.checker_calls.proofs.TextsReading.{reading_of, behind_kept, tree_kept}
+use Rattle.checker_calls.proofs.TextsReading.{reading_of, after_kept, tree_kept}
 use Rattle.checker_calls.proofs.schema_texts.SchemaTexts.keep.Goals as goal
 
 pub returns-then-not-is_empty-clause-reading : goal.returns-then-not-is_empty-clause-reading
 returns-then-not-is_empty-clause-reading c = λ text reads nests given.
     let old = c.args.self.now in
     reading_of (texts_of old ++ text ∷ []) old (c.args.file.0 + 1) c.requires.number
-    (behind_kept old c.args.file c.requires text _ reads nests (λ e. let h = c.if-not-is_empty.ensures.1 e in absurd cc))
+    (after_kept old c.args.file c.requires text _ reads nests (λ e. let h = c.if-not-is_empty.ensures.1 e in absurd cc))
 
 pub returns-clause-reading : goal.returns-clause-reading
 returns-clause-reading c = λ text reads nests given.

@@ -7,7 +7,7 @@ use Rattle.verdict_definitions.specs.in_read.Reads.{NestingBound}
 use Rattle.verdict_definitions.specs.in_read.ReadFaults.{unnamed_source}
 use Rattle.verdict_definitions.specs.in_faults.DetailsView.{diagnostics_of}
 use Rattle.verdict_definitions.specs.Texts.{ReadsText}
-use Rattle.checker_calls.specs.Added.{IsToldBehind}
+use Rattle.checker_calls.specs.Added.{IsToldAfter}
 use Rattle.checker_calls.specs.TextsView.{texts_of, IsReadingOf}
 use Rattle.checker_calls.proofs.TextsReading.{reading_of, unread_kept}
 use Rattle.checker_calls.proofs.schema_texts.SchemaTexts.read_numbered.Goals as goal
@@ -23,7 +23,7 @@ returns-in-Ok-clause-reading c =
 pub returns-in-Err-clause-reading : goal.returns-in-Err-clause-reading
 returns-in-Err-clause-reading c =
     let old = c.args.self.now in
-    let told : IsToldBehind c.in-Err.unread (diagnostics_of old.unread) (diagnostics_of c.tell.new.list) → IsReadingOf (texts_of old ++ (rc_str_bytes c.args.text.now) ∷ []) (record old { unread = c.tell.new.list }) =
+    let told : IsToldAfter c.in-Err.unread (diagnostics_of old.unread) (diagnostics_of c.tell.new.list) → IsReadingOf (texts_of old ++ (rc_str_bytes c.args.text.now) ∷ []) (record old { unread = c.tell.new.list }) =
     λ h. reading_of (texts_of old ++ (rc_str_bytes c.args.text.now) ∷ []) (record old { unread = c.tell.new.list }) (c.args.file.0 + 1) c.requires.number
     (unread_kept old c.args.file c.requires (rc_str_bytes c.args.text.now) c.in-Err.unread c.in-Err.ensures.unread (diagnostics_of c.tell.new.list) h) in
     on_ok_weaker c.tell.result told c.tell.ensures

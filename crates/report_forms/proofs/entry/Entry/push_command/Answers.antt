@@ -4,7 +4,7 @@ use Rattle.std.specs.Option.{option_map}
 use Rattle.std.proofs.lemmas.List.{append_assoc}
 use Rattle.report_forms.specs.Escapes.{escaped_text}
 use Rattle.report_forms.specs.Forms.{command_head, properties, related_line, hint_line}
-use Rattle.report_forms.proofs.Texts.{seven_behind, left_as}
+use Rattle.report_forms.proofs.Texts.{seven_after, left_as}
 use Rattle.report_forms.proofs.entry.Entry.push_command.Goals as goal
 
 -- the parts up to the related places, and what comes after them
@@ -15,7 +15,7 @@ joined old head path place rule message related more hint a b c d out p q r s t 
     let front = head ++ path ++ place ++ codes ",title=" ++ rule ++ codes "::" ++ message in
     let told : d ≡ old ++ front =
     s ∙ ap (λ l. l ++ codes "::" ++ message) (r ∙ ap (λ l. l ++ codes ",title=" ++ rule) (q ∙ ap (λ l. l ++ place) p))
-    ∙ seven_behind old head path place (codes ",title=") rule (codes "::") message in
+    ∙ seven_after old head path place (codes ",title=") rule (codes "::") message in
     ap (λ l. l ++ more) (t ∙ ap (λ l. l ++ related) told ∙ append_assoc old front related) ∙ append_assoc old (front ++ related) more ∙ ap (λ l. old ++ (front ++ related ++ l)) u
 
 pub returns-in-None : goal.returns-in-None

@@ -2,14 +2,14 @@ use Rattle.std.proofs.Common.{◌≡◌, ◌++◌, List, ℕ, codes, string_byte
 use Rattle.std.specs.Option.{option_map}
 use Rattle.report_forms.specs.Forms.{severity_word}
 use Rattle.report_forms.specs.Objects.{place_members, text_member, related_member, hint_member, fields_member, object}
-use Rattle.report_forms.proofs.Texts.{eight_behind, left_as}
+use Rattle.report_forms.proofs.Texts.{eight_after, left_as}
 use Rattle.report_forms.proofs.entry.Entry.push_object.Goals as goal
 
 -- the members, one after another
 joined : (old a b c d e f g h p q r s t u v : List ℕ) → p ≡ old ++ a → q ≡ p ++ b → r ≡ q ++ c → s ≡ r ++ d → t ≡ s ++ e → u ≡ t ++ f → v ≡ u ++ g
     → v ++ h ≡ old ++ (a ++ b ++ c ++ d ++ e ++ f ++ g ++ h)
 joined old a b c d e f g h p q r s t u v i j k l m n o =
-    ap (λ w. w ++ h) (o ∙ ap (λ w. w ++ g) (n ∙ ap (λ w. w ++ f) (m ∙ ap (λ w. w ++ e) (l ∙ ap (λ w. w ++ d) (k ∙ ap (λ w. w ++ c) (j ∙ ap (λ w. w ++ b) i)))))) ∙ eight_behind old a b c d e f g h
+    ap (λ w. w ++ h) (o ∙ ap (λ w. w ++ g) (n ∙ ap (λ w. w ++ f) (m ∙ ap (λ w. w ++ e) (l ∙ ap (λ w. w ++ d) (k ∙ ap (λ w. w ++ c) (j ∙ ap (λ w. w ++ b) i)))))) ∙ eight_after old a b c d e f g h
 
 pub returns : goal.returns
 returns c =

@@ -6,7 +6,7 @@ use Rattle.rule_field_groups.specs.in_sets.in_schema.SchemaOf.{schema_tree}
 use Rattle.rule_field_groups.specs.in_sets.in_reach.in_typed_operations.DocumentView.{document_meant, operation_meant}
 use Rattle.rule_merging.specs.Merged.{conflicts_told}
 use Rattle.rule_merging.proofs.Verdicts.{conflicts_right, only_no_conflicts, stays_exactly, still_settled, settled_closed, settled_merges}
-use Rattle.rule_merging.proofs.Behind.{nothing_told, begins_same, refused_so}
+use Rattle.rule_merging.proofs.After.{nothing_told, begins_same, refused_so}
 use Rattle.rule_merging.proofs.merging.FieldsInSetCanMerge.validate_operation.Goals as goal
 
 pub returns-in_err-left-clause-begins : goal.returns-in_err-left-clause-begins

@@ -12,12 +12,12 @@ pub returns-then-not-is_extension_definition-clause-added : goal.returns-then-no
 returns-then-not-is_extension_definition-clause-added c =
     adds_unnumbered (definition_tree c.args.definition.now) (texts_view c.args.self.now) _ (sym c.is_extension_definition.ensures ∙ c.if-not-is_extension_definition.true) c.in_ok-push_shared.ensures (λ _. c.args.self.now.extensions)
 
-pub returns-then-not-is_extension_definition-clause-behind : goal.returns-then-not-is_extension_definition-clause-behind
-returns-then-not-is_extension_definition-clause-behind c =
+pub returns-then-not-is_extension_definition-clause-following : goal.returns-then-not-is_extension_definition-clause-following
+returns-then-not-is_extension_definition-clause-following c =
     ap definitions_of c.in_ok-push_shared.ensures ∙ map-append (λ l. l.definition) (map listed_view c.args.self.now.list.items) (record { definition = definition_tree c.args.definition.now; extension = None } ∷ [])
 
-pub returns-clause-behind : goal.returns-clause-behind
-returns-clause-behind c =
+pub returns-clause-following : goal.returns-clause-following
+returns-clause-following c =
     ap definitions_of c.in_ok-push_shared-2.ensures
     ∙ map-append (λ l. l.definition) (map listed_view c.args.self.now.list.items) (record { definition = definition_tree c.args.definition.now; extension = Some (extension_tree c.in_ok-id.id) } ∷ [])
 

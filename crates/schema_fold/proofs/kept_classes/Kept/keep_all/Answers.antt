@@ -11,7 +11,7 @@ use Rattle.schema_fold.specs.Keeping.{name_fault}
 use Rattle.schema_fold.specs.Kept.{interface_repeat, field_repeat, repeat_faults}
 use Rattle.schema_fold.specs.declared.build_error.Repeat.TheVariants as repeat
 use Rattle.schema_fold.proofs.Grown.{kept_trees, told_trees}
-use Rattle.schema_fold.proofs.Keeping.{behind}
+use Rattle.schema_fold.proofs.Keeping.{following}
 use Rattle.schema_fold.proofs.kept_classes.Kept.keep_all.Goals as goal
 
 pub returns-clause-kept : goal.returns-clause-kept
@@ -42,7 +42,7 @@ returns-clause-faults c =
     let r : List BuildFault = repeat_faults {A = Text Place} repeat.UnionMember t given_name (λ x. x.place) (map component_name_tree all.members.items) in
     let s : List BuildFault = repeat_faults {A = Placed Place (EnumValueTree Place)} repeat.EnumValue t value_key (λ x. x.place) (map (component_tree enum_value_tree) all.values.items) in
     let u : List BuildFault = repeat_faults {A = Placed Place (InputValueTree Place)} repeat.InputField t input_key (λ x. x.place) (map (component_tree input_value_tree) all.inputs.items) in
-    behind start one two three four five p q r s u
+    following start one two three four five p q r s u
     (c.in_ok-keep_names.ensures.faults ∙ ap (λ k. start ++ map (name_fault k t) (repeats given_name (map component_name_tree c.as_slice.result.now))) c.interface_repeat.ensures
     ∙ ap (λ xs. start ++ map (name_fault (interface_repeat c.args.kind) t) (repeats given_name (map component_name_tree xs))) c.as_slice.ensures.value)
     (c.in_ok-keep_components.ensures.faults ∙ ap (λ l. one ++ l) (told_trees field_definition_tree (λ f. f.name) field_key refl c.field_repeat.result t c.as_slice-2.result.now)

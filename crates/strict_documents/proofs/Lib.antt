@@ -1,0 +1,7 @@
+pub mod AtRoots
+pub mod Conditions
+pub mod Gathered
+pub mod Interfaces
+pub mod Operations
+pub mod Telling
+pub mod ToTheLetter

@@ -1,0 +1,7 @@
+pub mod Steps
+mod Found
+mod Numbered
+mod Pairs
+mod SomeIndex
+mod DefaultsTold
+mod Silent

@@ -1,0 +1,8 @@
+use Rattle.std.proofs.Common.{◌≡◌, map}
+use Rattle.rule_definitions.specs.Room.{◌⊕◌}
+use Rattle.strict_values.specs.Views.{departures_of}
+use Rattle.strict_schemas.specs.Told.{added_inputs_of}
+use Rattle.strict_schemas.proofs.extended.tell_added_inputs.Given as goal
+
+abbrev pub invariant-loop-field : goal.invariant-loop-field
+invariant-loop-field l = departures_of l.departures ≡ departures_of l.fn.departures ⊕ added_inputs_of (map (λ e. (e.0.now, e.1.now)) l.yielded)

@@ -1,0 +1,5 @@
+pub mod Types
+pub mod FloatPast
+pub mod Spelled
+pub mod Found
+pub mod Walked
