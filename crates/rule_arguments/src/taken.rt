@@ -1,11 +1,10 @@
 //! Arguments that are given against those that are defined.
 ghost use Rattle.std.specs.Prelude.{◌≡◌, ◌⊎◌, ◌↔◌, find, take, length, IfSome, IsTrue, OnOk, ◌<◌, Some, None};
-ghost use Rattle.std.specs.Option.{option_map};
 ghost use Rattle.indexmap.specs.IndexMap.{get};
 ghost use Rattle.graphql_names.specs.Placed.{node_tree};
 ghost use Rattle.tree_literals.specs.ValueTree.{value_tree};
 ghost use Rattle.tree_directives.specs.DirectiveTree.{input_value_tree, input_value_trees};
-ghost use Rattle.tree_directives.specs.DirectiveQueries.{argument_has_name, input_value_has_name, given_value};
+ghost use Rattle.tree_directives.specs.DirectiveQueries.{argument_has_name, given_value};
 ghost use Rattle.schema_components.specs.Names.{same_text};
 ghost use Rattle.rule_values.specs.in_schema.in_schema_types.TypeView.{name_text};
 ghost use Rattle.rule_values.specs.in_schema.SchemaOf.{schema_tree};
@@ -27,57 +26,11 @@ use crate::usage::disallowed_variable_usage;
 use graphql_names::{Name, Node};
 use indexmap::IndexMap;
 use rule_values::{
-    DefinedArguments, DefinedVariables, DiagnosticData, Fault, IndexedSchema, definition_numbers,
-    is_full, tell, type_breaks,
+    DefinedVariables, DiagnosticData, Fault, IndexedSchema, definition_numbers, is_full, tell,
+    type_breaks,
 };
 use std::alloc::AllocError;
 use tree_directives::{Argument, InputValueDefinition};
-
-/// The first of these definitions that has that name; the list is scanned.
-fn find_listed_definition<'a>(
-    definitions: &'a [Node<InputValueDefinition>],
-    name: &Name,
-) -> Option<&'a Node<InputValueDefinition>>
-    ensures { option_map (λ v. node_tree input_value_tree v.now) result ≡ find (input_value_has_name name.now.text) (input_value_trees definitions.now) }
-{
-    for definition in definitions {
-        if definition.content().name.as_str() == name.as_str() {
-            return Some(definition);
-        }
-    }
-    None
-}
-
-/// The first of these definitions that has that name; `numbers` has its index.
-fn find_numbered_definition<'a>(
-    definitions: &'a [Node<InputValueDefinition>],
-    numbers: &IndexMap<Name, usize>,
-    name: &Name,
-) -> Option<&'a Node<InputValueDefinition>>
-    requires { AreNumbers input_name numbers.now (input_value_trees definitions.now) }
-    ensures { option_map (λ v. node_tree input_value_tree v.now) result ≡ find (input_value_has_name name.now.text) (input_value_trees definitions.now) }
-{
-    match numbers.get(name) {
-        None => None,
-        Some(index) => definitions.get(*index),
-    }
-}
-
-/// The first of these definitions that has that name; `numbers` has its index, if they are noted.
-fn find_definition<'a>(
-    definitions: &DefinedArguments<'a>,
-    numbers: Option<&IndexMap<Name, usize>>,
-    name: &Name,
-) -> Option<&'a Node<InputValueDefinition>>
-    requires { IfSome numbers (λ numbers. AreNumbers input_name numbers.now (input_value_trees definitions.now)) }
-    ensures { option_map (λ v. node_tree input_value_tree v.now) result ≡ find (input_value_has_name name.now.text) (input_value_trees definitions.now) }
-{
-    let nodes = definitions.nodes();
-    match numbers {
-        None => find_listed_definition(nodes, name),
-        Some(numbers) => find_numbered_definition(nodes, numbers, name),
-    }
-}
 
 /// UndefinedArgument: an argument is valid only if the field or directive defines it (section 5.4.1).
 fn undefined_argument(
@@ -90,7 +43,7 @@ fn undefined_argument(
     ensures { OnOk result (Tells faults.old faults.new (undefined_argument_of taker.now argument.now)) }
 {
     let name = &argument.content().name;
-    if find_definition(taker.definitions, defined, name).is_some() {
+    if taker.definitions.find_by(defined, name).is_some() {
         return Ok(());
     }
     let name = name.clone()?;
@@ -214,7 +167,7 @@ fn check_if_defined(
     ensures { OnOk result (Adds faults.old faults.new (BreaksIfDefined judging.now taker.now argument.now)) }
 {
     let name = &argument.content().name;
-    match find_definition(taker.definitions, defined, name) {
+    match taker.definitions.find_by(defined, name) {
         None => Ok(()),
         Some(definition) => check_argument(judging, argument, definition, faults),
     }

@@ -1,8 +1,6 @@
 //! Variables that are given for arguments.
 ghost use Rattle.std.specs.Prelude.{◌≡◌, ◌↔◌, map, IfOk, OnOk, IsTrue, option_to_list};
 ghost use Rattle.graphql_names.specs.Placed.{node_tree};
-ghost use Rattle.tree_literals.specs.TypeTree.{type_tree};
-ghost use Rattle.tree_literals.specs.TypeQueries.{nullable_type, AreTypesCompatible};
 ghost use Rattle.tree_directives.specs.DirectiveTree.{argument_tree, input_value_tree, unplaced_input_value};
 ghost use Rattle.tree_operations.specs.OperationTree.{variable_definition_tree};
 ghost use Rattle.rule_values.specs.in_fault_data.FaultView.{fault_of};
@@ -21,24 +19,6 @@ use tree_directives::{Argument, InputValueDefinition};
 use tree_literals::Type;
 use tree_operations::VariableDefinition;
 
-/// Whether a value of the type may be used where `target` without its mark `!` is expected.
-#[tactic(auto, using(tree_literals::proofs::Trees::type_tree_rules))]
-fn is_assignable_to_nullable(ty: &Type, target: &Type) -> bool
-    ensures { IsTrue result ↔ AreTypesCompatible (type_tree ty.now) (nullable_type (type_tree target.now)) }
-{
-    match target {
-        Type::Named(_) | Type::List(_) => ty.is_assignable_to(target),
-        Type::NonNullNamed(wanted) => match ty {
-            Type::Named(name) | Type::NonNullNamed(name) => *name == *wanted,
-            Type::List(_) | Type::NonNullList(_) => false,
-        },
-        Type::NonNullList(wanted) => match ty {
-            Type::List(item) | Type::NonNullList(item) => item.is_assignable_to(wanted),
-            Type::Named(_) | Type::NonNullNamed(_) => false,
-        },
-    }
-}
-
 /// Whether a default on either side makes a nullable variable fit a non-null argument.
 fn fits_with_default(variable: &VariableDefinition, definition: &InputValueDefinition) -> bool
     ensures { IsTrue result ↔ FitsWithDefault (variable_definition_tree variable.now) (input_value_tree definition.now) }
@@ -49,7 +29,7 @@ fn fits_with_default(variable: &VariableDefinition, definition: &InputValueDefin
     if ty.is_non_null() || !wanted.is_non_null() || !has_default {
         return false;
     }
-    is_assignable_to_nullable(ty, wanted)
+    ty.is_assignable_to_nullable(wanted)
 }
 
 /// Whether a variable may be used for an argument: a nullable one fits a non-null argument only with a default on

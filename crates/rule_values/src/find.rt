@@ -14,7 +14,7 @@ use tree_directives::InputValueDefinition;
 use tree_type_members::EnumValueDefinition;
 
 /// The field of that name of an input object, if there is one; other types have none.
-pub(crate) fn find_input<'a>(
+pub fn find_input<'a>(
     ty: &'a ExtendedType,
     name: &Name,
 ) -> Option<&'a Component<InputValueDefinition>>
@@ -27,7 +27,7 @@ pub(crate) fn find_input<'a>(
 }
 
 /// The value of that name of an enum, if there is one; other types have none.
-pub(crate) fn find_value<'a>(
+pub fn find_value<'a>(
     ty: &'a ExtendedType,
     name: &Name,
 ) -> Option<&'a Component<EnumValueDefinition>>

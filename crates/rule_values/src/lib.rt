@@ -25,6 +25,7 @@ mod wanted;
 pub use checks::{check_value, type_breaks, undefined_variables, unique_input_values};
 pub use defined::DefinedVariables;
 pub use fault_data::{DiagnosticData, Fault, TypeAttributeCoordinate, is_full, tell};
+pub use find::{find_input, find_value};
 pub use graphql_schema::Schema;
 pub use indexed::IndexedSchema;
 pub use schema_inputs::{DefinedArguments, SchemaInputs, definition_numbers, note_first};

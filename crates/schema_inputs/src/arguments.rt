@@ -1,6 +1,9 @@
 //! The arguments of one field or directive definition.
-ghost use Rattle.std.specs.Prelude.{◌≡◌, IfSome};
-ghost use Rattle.tree_directives.specs.DirectiveTree.{input_value_trees};
+ghost use Rattle.std.specs.Prelude.{◌≡◌, find, IfSome};
+ghost use Rattle.std.specs.Option.{option_map};
+ghost use Rattle.graphql_names.specs.Placed.{node_tree};
+ghost use Rattle.tree_directives.specs.DirectiveTree.{input_value_tree, input_value_trees};
+ghost use Rattle.tree_directives.specs.DirectiveQueries.{input_value_has_name};
 ghost use Rattle.schema_inputs.specs.Firsts.{AreNumbers};
 ghost use Rattle.schema_inputs.specs.Inputs.{input_name, required_inputs, AreKnown};
 
@@ -79,6 +82,28 @@ impl<'a> DefinedArguments<'a> {
         }
     }
 
+    /// The first argument with that name.
+    pub fn find(&self, name: &Name) -> Option<&'a Node<InputValueDefinition>>
+        ensures { option_map (λ v. node_tree input_value_tree v.now) result ≡ find (input_value_has_name name.now.text) (input_value_trees self.now) }
+    {
+        self.find_by(self.numbers(), name)
+    }
+
+    /// The first argument with that name; `numbers` has under each name the index of the first, if they are noted.
+    pub fn find_by(
+        &self,
+        numbers: Option<&IndexMap<Name, usize>>,
+        name: &Name,
+    ) -> Option<&'a Node<InputValueDefinition>>
+        requires { IfSome numbers (λ numbers. AreNumbers input_name numbers.now (input_value_trees self.now)) }
+        ensures { option_map (λ v. node_tree input_value_tree v.now) result ≡ find (input_value_has_name name.now.text) (input_value_trees self.now) }
+    {
+        match numbers {
+            None => find_listed(self.nodes, name),
+            Some(numbers) => find_numbered(self.nodes, numbers, name),
+        }
+    }
+
     /// All required arguments, in order; if nothing is known of the arguments, all others too.
     pub fn with_required(&self) -> &'a [Node<InputValueDefinition>]
         ensures { required_inputs (input_value_trees result.now) ≡ required_inputs (input_value_trees self.now) }
@@ -87,5 +112,35 @@ impl<'a> DefinedArguments<'a> {
             None => self.nodes,
             Some(known) => known.required.as_slice(),
         }
+    }
+}
+
+/// The first of these definitions that has that name; the list is scanned.
+fn find_listed<'a>(
+    definitions: &'a [Node<InputValueDefinition>],
+    name: &Name,
+) -> Option<&'a Node<InputValueDefinition>>
+    ensures { option_map (λ v. node_tree input_value_tree v.now) result ≡ find (input_value_has_name name.now.text) (input_value_trees definitions.now) }
+{
+    for definition in definitions {
+        if definition.content().name.as_str() == name.as_str() {
+            return Some(definition);
+        }
+    }
+    None
+}
+
+/// The first of these definitions that has that name; `numbers` has its index.
+fn find_numbered<'a>(
+    definitions: &'a [Node<InputValueDefinition>],
+    numbers: &IndexMap<Name, usize>,
+    name: &Name,
+) -> Option<&'a Node<InputValueDefinition>>
+    requires { AreNumbers input_name numbers.now (input_value_trees definitions.now) }
+    ensures { option_map (λ v. node_tree input_value_tree v.now) result ≡ find (input_value_has_name name.now.text) (input_value_trees definitions.now) }
+{
+    match numbers.get(name) {
+        None => None,
+        Some(index) => definitions.get(*index),
     }
 }

@@ -5,7 +5,6 @@ ghost use Rattle.strict_values.specs.Views.{Tells};
 
 use crate::departure::Departure;
 use crate::location::{Location, Strictness};
-use crate::lookups::find_definition;
 use crate::values::tell_value;
 use document_typed_selections::{Field, Selection};
 use graphql_names::{Name, Node};
@@ -23,7 +22,7 @@ fn tell_argument(
     ensures { OnOk result (Tells departures.old departures.new (argument_departures_of strictness.now definitions.now argument.now)) }
 {
     let given = argument.content();
-    match find_definition(definitions, &given.name) {
+    match definitions.find(&given.name) {
         None => Ok(()),
         Some(definition) => {
             let location = Location::of_argument(definition.content());

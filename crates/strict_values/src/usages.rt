@@ -1,34 +1,13 @@
 //! Usages of variables, as the specification allows them.
-ghost use Rattle.std.specs.Prelude.{◌≡◌, ◌↔◌, ◌||◌, false, not, IsTrue};
+ghost use Rattle.std.specs.Prelude.{◌≡◌, ◌||◌, false, not};
 ghost use Rattle.std.specs.Option.{option_map_or};
-ghost use Rattle.tree_literals.specs.TypeTree.{type_tree};
-ghost use Rattle.tree_literals.specs.TypeQueries.{nullable_type, AreTypesCompatible};
 ghost use Rattle.tree_literals.specs.ValueQueries.{is_null_value};
 ghost use Rattle.tree_operations.specs.OperationTree.{variable_definition_tree};
 ghost use Rattle.strict_values.specs.Letter.{needs_default, has_non_null_default, is_usage_allowed};
 ghost use Rattle.strict_values.specs.Given.{location_of};
 
 use crate::location::Location;
-use tree_literals::Type;
 use tree_operations::VariableDefinition;
-
-/// Whether a value of the type may be used where `target` without its mark `!` is expected.
-#[tactic(auto, using(tree_literals::proofs::Trees::type_tree_rules))]
-fn is_assignable_to_nullable(ty: &Type, target: &Type) -> bool
-    ensures { IsTrue result ↔ AreTypesCompatible (type_tree ty.now) (nullable_type (type_tree target.now)) }
-{
-    match target {
-        Type::Named(_) | Type::List(_) => ty.is_assignable_to(target),
-        Type::NonNullNamed(wanted) => match ty {
-            Type::Named(name) | Type::NonNullNamed(name) => *name == *wanted,
-            Type::List(_) | Type::NonNullList(_) => false,
-        },
-        Type::NonNullList(wanted) => match ty {
-            Type::List(item) | Type::NonNullList(item) => item.is_assignable_to(wanted),
-            Type::Named(_) | Type::NonNullNamed(_) => false,
-        },
-    }
-}
 
 /// Whether the definition has a default value that is not null.
 fn has_non_null_default(variable: &VariableDefinition) -> bool
@@ -66,5 +45,5 @@ pub fn is_usage_allowed(variable: &VariableDefinition, location: Location<'_>) -
     if !has_default(variable, location) {
         return false;
     }
-    is_assignable_to_nullable(ty, location.ty)
+    ty.is_assignable_to_nullable(location.ty)
 }

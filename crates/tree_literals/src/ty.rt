@@ -138,6 +138,24 @@ impl Type {
             },
         }
     }
+
+    /// Whether a value of this type may be used where `target` without its mark `!` is asked for (section 5.8.5).
+    #[tactic(auto, using(crate::proofs::Trees::type_tree_rules))]
+    pub fn is_assignable_to_nullable(&self, target: &Type) -> bool
+        ensures { IsTrue result ↔ AreTypesCompatible (type_tree self.now) (nullable_type (type_tree target.now)) }
+    {
+        match target {
+            Type::Named(_) | Type::List(_) => self.is_assignable_to(target),
+            Type::NonNullNamed(wanted) => match self {
+                Type::Named(name) | Type::NonNullNamed(name) => *name == *wanted,
+                Type::List(_) | Type::NonNullList(_) => false,
+            },
+            Type::NonNullList(wanted) => match self {
+                Type::List(item) | Type::NonNullList(item) => item.is_assignable_to(wanted),
+                Type::Named(_) | Type::NonNullNamed(_) => false,
+            },
+        }
+    }
 }
 
 impl Clone for Type {

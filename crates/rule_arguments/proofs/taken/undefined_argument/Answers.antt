@@ -26,8 +26,8 @@ returns c =
     let a = node_tree argument_tree c.args.argument.now in
     let text = ap (λ (n : NameValue). n.text) c.in_ok-name.ensures.same ∙ ap (λ (x : Argument). x.name.text) c.content.ensures in
     let none : find (input_value_has_name (argument_name a)) definitions ≡ None =
-    ap (λ (x : Argument). find (input_value_has_name x.name.text) definitions) (sym c.content.ensures) ∙ sym c.find_definition.ensures
-    ∙ absent (λ (v : Bor (Node InputValueDefinition)). node_tree input_value_tree v.now) c.find_definition.result (sym c.is_some.ensures ∙ c.if-is_some.false) in
+    ap (λ (x : Argument). find (input_value_has_name x.name.text) definitions) (sym c.content.ensures) ∙ sym c.find_by.ensures
+    ∙ absent (λ (v : Bor (Node InputValueDefinition)). node_tree input_value_tree v.now) c.find_by.result (sym c.is_some.ensures ∙ c.if-is_some.false) in
     let told : List PlacedFault = wrong a.place (UndefinedArgument (argument_name a) (coordinate_of taker.name) taker.definition_location) ∷ [] in
     IfOk-equal c.tell.result _ _ _ c.tell.ensures.told
     (ap (λ (l : List PlacedFault). faults_of c.args.faults.now ⊕ l) (

@@ -32,7 +32,7 @@ returns-in-None c =
     let a = c.content-given.result.now in
     subst (λ (x : Argument). old ≡ old ⊕ option_map_or (by_definition s vs x) (find (input_value_has_name x.name.text) (plain_inputs ds)) []) c.content-given.ensures
     (nothing_told (by_definition s vs a) old (find (input_value_has_name a.name.text) (plain_inputs ds))
-    (plain_found a.name.text ds ∙ ap (option_map (unplaced_node unplaced_input_value)) (sym c.find_definition.ensures ∙ ap (option_map (λ v. node_tree input_value_tree v.now)) c.in-None.is)))
+    (plain_found a.name.text ds ∙ ap (option_map (unplaced_node unplaced_input_value)) (sym c.find.ensures ∙ ap (option_map (λ v. node_tree input_value_tree v.now)) c.in-None.is)))
 
 pub returns-in-Some : goal.returns-in-Some
 returns-in-Some c =
@@ -45,7 +45,7 @@ returns-in-Some c =
     on_ok_weaker c.tell_value.result
     (λ told. subst (λ (x : Argument). new ≡ old ⊕ option_map_or (by_definition s vs x) (find (input_value_has_name x.name.text) (plain_inputs ds)) []) c.content-given.ensures
     (found_told (by_definition s vs a) old (find (input_value_has_name a.name.text) (plain_inputs ds)) (unplaced_node unplaced_input_value (node_tree input_value_tree c.in-Some.definition.now)) new
-    (plain_found a.name.text ds ∙ ap (option_map (unplaced_node unplaced_input_value)) (sym c.find_definition.ensures ∙ ap (option_map (λ v. node_tree input_value_tree v.now)) c.in-Some.is))
+    (plain_found a.name.text ds ∙ ap (option_map (unplaced_node unplaced_input_value)) (sym c.find.ensures ∙ ap (option_map (λ v. node_tree input_value_tree v.now)) c.in-Some.is))
     (told ∙ ap (λ l. old ⊕ value_departures s vs l (place a.value) (value_tree (content a.value)))
     (c.of_argument-location.ensures ∙ ap (λ (d : InputValueDefinition). argument_location (unplaced_input_value (input_value_tree d))) c.content.ensures))))
     c.tell_value.ensures

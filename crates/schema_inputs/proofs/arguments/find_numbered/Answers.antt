@@ -1,9 +1,9 @@
 use Rattle.std.proofs.Common.{◌∙◌}
 use Rattle.graphql_names.specs.Placed.{node_tree}
 use Rattle.tree_directives.specs.DirectiveTree.{input_value_tree}
-use Rattle.rule_definitions.specs.Names.{input_name}
+use Rattle.schema_inputs.specs.Inputs.{input_name}
 use Rattle.schema_inputs.proofs.Noted.{taken, number_absent, number_there}
-use Rattle.strict_values.proofs.lookups.find_numbered.Goals as goal
+use Rattle.schema_inputs.proofs.arguments.find_numbered.Goals as goal
 
 pub returns-in-None : goal.returns-in-None
 returns-in-None c =
