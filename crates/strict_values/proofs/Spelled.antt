@@ -35,7 +35,7 @@ one_longer (y ∷ ys) c =
     let rest = one_longer ys c in
     omega (arith, more, now, rest)
 
-module _ (file : ℕ) where
+module _ (file : ℕ) (told : List (Departure (Option Stretch))) where
   both_parts : (o : ℕ) (ys zs : List ℕ) → character_departures file o (ys ++ zs) ≡ character_departures file o ys ++ character_departures file (o + length (encode_utf8_all ys)) zs
   both_parts o [] zs = let same : o ≡ o + 0 = omega arith in ap (λ n. character_departures file n zs) same
   both_parts o (y ∷ ys) zs =
@@ -47,12 +47,12 @@ module _ (file : ℕ) where
       ∙ ap (λ n. (own ++ first) ++ character_departures file n zs) same
 
   -- one more character
-  pub character_more : (o : ℕ) (ys : List ℕ) (c : ℕ) (now new : List (Departure (Option Stretch))) → o ≡ length (encode_utf8_all ys) → now ≡ [] ⊕ character_departures file 0 ys
-      → new ≡ now ⊕ character_departure file o c → new ≡ [] ⊕ character_departures file 0 (ys ++ c ∷ [])
-  character_more o ys c now new at so_far told =
+  pub character_more : (o : ℕ) (ys : List ℕ) (c : ℕ) (now new : List (Departure (Option Stretch))) → o ≡ length (encode_utf8_all ys) → now ≡ told ⊕ character_departures file 0 ys
+      → new ≡ now ⊕ character_departure file o c → new ≡ told ⊕ character_departures file 0 (ys ++ c ∷ [])
+  character_more o ys c now new at so_far more =
       let from : length (encode_utf8_all ys) ≡ 0 + length (encode_utf8_all ys) = omega arith in
-      told ∙ ap (λ l. l ⊕ character_departure file o c) so_far ∙ room_both [] (character_departures file 0 ys) (character_departure file o c)
-      ∙ ap (λ n. [] ⊕ (character_departures file 0 ys ++ character_departure file n c)) at
-      ∙ ap (λ l. [] ⊕ (character_departures file 0 ys ++ l)) (sym (append-nil (character_departure file (length (encode_utf8_all ys)) c)))
-      ∙ ap (λ n. [] ⊕ (character_departures file 0 ys ++ character_departures file n (c ∷ []))) from
-      ∙ ap (λ l. [] ⊕ l) (sym (both_parts 0 ys (c ∷ [])))
+      more ∙ ap (λ l. l ⊕ character_departure file o c) so_far ∙ room_both told (character_departures file 0 ys) (character_departure file o c)
+      ∙ ap (λ n. told ⊕ (character_departures file 0 ys ++ character_departure file n c)) at
+      ∙ ap (λ l. told ⊕ (character_departures file 0 ys ++ l)) (sym (append-nil (character_departure file (length (encode_utf8_all ys)) c)))
+      ∙ ap (λ n. told ⊕ (character_departures file 0 ys ++ character_departures file n (c ∷ []))) from
+      ∙ ap (λ l. told ⊕ l) (sym (both_parts 0 ys (c ∷ [])))

@@ -1,8 +1,9 @@
 //! Characters that no source text may have (section 2.1).
 ghost use Rattle.std.specs.Prelude.{◌≡◌, ◌+◌, ◌<◌, ◌^◌, length, IfOk, OnOk};
 ghost use Rattle.std.specs.Char.{encode_utf8};
+ghost use Rattle.std.specs.Str.{chars};
 ghost use Rattle.rule_definitions.specs.Room.{◌⊕◌};
-ghost use Rattle.strict_values.specs.Characters.{is_source_character, character_departure, stretches_of, TellsCharacters};
+ghost use Rattle.strict_values.specs.Characters.{is_source_character, character_departure, character_departures, stretches_of, TellsCharacters};
 
 use crate::departure::{Departure, DepartureKind};
 use crate::telling::tell;
@@ -46,6 +47,22 @@ fn tell_character(
     )
 }
 
+/// Adds the characters of the text of that file that no source text may have, in order.
+pub fn tell_characters(
+    file: FileId,
+    text: &str,
+    departures: &mut Vec<Departure>,
+) -> Result<(), AllocError>
+    ensures { OnOk result (stretches_of departures.new ≡ stretches_of departures.old ⊕ character_departures file.0 0 (chars text.now)) }
+{
+    let mut offset = 0;
+    for character in text.chars() {
+        tell_character(file, offset, character, departures)?;
+        offset += character.len_utf8();
+    }
+    Ok(())
+}
+
 /// The characters of the text of that file that no source text may have, in order, at most 1,000 of them. Fails if memory is
 /// refused.
 pub fn source_characters(
@@ -56,10 +73,6 @@ pub fn source_characters(
     ensures { IfOk result (λ departures. TellsCharacters file.0 text.now departures) }
 {
     let mut departures = Vec::new(alloc);
-    let mut offset = 0;
-    for character in text.chars() {
-        tell_character(file, offset, character, &mut departures)?;
-        offset += character.len_utf8();
-    }
+    tell_characters(file, text, &mut departures)?;
     Ok(departures)
 }

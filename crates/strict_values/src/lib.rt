@@ -3,7 +3,7 @@
 //! For the layers above: `tell_given`, `tell_directives` and `tell_selection` add the departures of arguments and directives, in
 //! order and at any depth of values (`specs/Departing.antt`): numbers that no finite 64-bit float is nearest to (section 3.5.2),
 //! items that are no lists where lists are expected (3.11), and variables whose usage the specification does not allow (5.8.5).
-//! `source_characters` tells the characters of a text that no source text may have (2.1).
+//! `source_characters` and `tell_characters` tell the characters of a text that no source text may have (2.1).
 //!
 //! Begin with `specs/Letter.antt` and `parts.rt`.
 #![tactic(auto)]
@@ -20,7 +20,7 @@ mod usages;
 mod values;
 
 pub use arguments::{tell_directives, tell_given, tell_selection};
-pub use characters::source_characters;
+pub use characters::{source_characters, tell_characters};
 pub use departure::{Departure, DepartureKind};
 pub use location::{Location, Strictness};
 pub use numbers::is_finite_number;
