@@ -12,7 +12,8 @@ the places that pages name.
 --check runs them all and prints each line that differs; its status is then 1. It also compares the places that these pages
 name, as in `examples/refused/unknown_field.graphql:4:5`: each must be that of a fault which one of the runs prints. Runs need
 the programs that `rt ci` leaves or `./graphql-checked` and `./graphql-report` keep; where one is not built from these sources, it
-says so, leaves out its runs, and the status is 1. Lines of `--format json` and `--batch` are read back as JSON. Each fault that
+says so, leaves out its runs, and the status is 1. Lines of `--format json` and `--batch` are read back as JSON, and logs of
+`--format sarif`, up to a pipe to python3, have what the schema of SARIF 2.1.0 requires of their members. Each fault that
 examples/mistakes prints has a place and a line of help. --write puts what is printed into examples/*/runs.txt, which must then be read:
 an expected line comes from the specification, not from the program.
 
@@ -142,6 +143,53 @@ def unread(run, lines):
     return [line for line in lines if wanted and line.startswith("{") and not is_json(line)]
 
 
+def unfit(run):
+    """What is wrong with the log of a run that is to print one of SARIF."""
+    if "--format sarif" not in run.command:
+        return []
+    command = run.command.split(" | python3")[0]
+    done = subprocess.run(["bash", "-c", command], cwd=TOP, env=ENVIRONMENT, stdin=subprocess.DEVNULL, stdout=subprocess.PIPE, stderr=subprocess.DEVNULL, timeout=120)
+    try:
+        return list(unfit_members(json.loads(done.stdout)))
+    except (ValueError, KeyError, TypeError) as error:
+        return [f"{type(error).__name__}: {error}"]
+
+
+def unfit_members(log):
+    """What the schema of SARIF 2.1.0 refuses of a log. A member that it requires and that is not there is a KeyError."""
+    if log["version"] != "2.1.0":
+        yield "the version is not 2.1.0"
+    for run in log["runs"]:
+        if not isinstance(run["tool"]["driver"]["name"], str):
+            yield "the name of the driver is no string"
+        if run["columnKind"] not in ("utf16CodeUnits", "unicodeCodePoints"):
+            yield f"a kind of columns: {run['columnKind']}"
+        for result in run["results"]:
+            if result["level"] not in ("none", "note", "warning", "error"):
+                yield f"a level: {result['level']}"
+            ids = [place["id"] for place in result["relatedLocations"]]
+            if len(set(ids)) != len(ids) or any(number < -1 for number in ids):
+                yield f"the numbers of related locations: {ids}"
+            texts = [holder["message"]["text"] for holder in (result, *result["relatedLocations"])] + [result["ruleId"]]
+            if not all(isinstance(text, str) for text in texts):
+                yield f"no strings: {texts}"
+            for place in (*result["locations"], *result["relatedLocations"]):
+                yield from unfit_place(place["physicalLocation"])
+
+
+def unfit_place(place):
+    """What is wrong with a physical location: its path is to be a URI without a scheme, its lines and columns count from 1."""
+    uri, region = place["artifactLocation"]["uri"], place.get("region")
+    if not re.fullmatch(r"(?:[A-Za-z0-9._~/-]|%[0-9A-F]{2})+", uri):
+        yield f"no path of a URI: {uri}"
+    if region is None:
+        return
+    start = (region["startLine"], region["startColumn"])
+    end = (region.get("endLine", start[0]), region.get("endColumn", start[1]))
+    if min(start + end) < 1 or end < start:
+        yield f"a region: {region}"
+
+
 def unhelped(run, lines):
     """The faults of a run of examples/mistakes that have no place, but those of a whole schema, or no line of help."""
     if not run.path.startswith("examples/mistakes/"):
@@ -189,6 +237,9 @@ def compared(runs, told):
         for line in unread(run, found):
             wrong += 1
             print(f"{run.path}:{run.line}: prints what is not JSON: {line}")
+        for what in unfit(run):
+            wrong += 1
+            print(f"{run.path}:{run.line}: prints what is not SARIF: {what}")
         for line in unhelped(run, found):
             wrong += 1
             print(f"{run.path}:{run.line}: has no place or no help: {line}")

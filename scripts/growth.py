@@ -9,8 +9,8 @@ families are measured whose names have one of them. With --constructs texts are 
 compared with nothing.
 
 The program is the proved one of `graphql_checked_program`; with --quick one that scripts/quick_build.py builds without proofs, which
-`./graphql-checked` keeps too; with --program any file. Families of `graphql-report` are measured on that program, built as the other
-is, or on the file of --report.
+`./graphql-checked` keeps too; with --program any file. Families of `graphql-report`, also those of its warnings, are measured on that
+program, built as the other is, or on the file of --report.
 
 Instructions are counted by `perf stat` where the machine counts them, else by valgrind's callgrind; the first line says by which.
 Memory needs `time` as GNU has it. Each run has limits: one that passes 10 processor seconds or 1 GB is cut off, and a line tells
@@ -87,8 +87,8 @@ class Measuring:
 
     def words(self, name):
         """How a program is called on these."""
-        files = ["--schema", "schema", "document"] if name == "report" else ["document", "schema"]
-        return [self.programs[name], *files]
+        words = {"check": ["document", "schema"], "report": ["--schema", "schema", "document"], "warn": ["--warn", "--schema", "schema", "document"]}
+        return [self.programs[name], *words[name]]
 
     def counted(self, name):
         """The instructions that it takes for these, and how it ended."""
@@ -176,11 +176,11 @@ def quick(crate):
 
 def programs(options):
     """The programs to measure, by what families call them."""
-    crates = {"check": "graphql_checked_program", "report": "graphql_report_program"}
+    crates = {"check": "graphql_checked_program", "report": "graphql_report_program", "warn": "graphql_report_program"}
     if options.quick:
         return {name: quick(crate) for name, crate in crates.items()}
     if options.program:
-        given = {"check": options.program, "report": options.report}
+        given = {"check": options.program, "report": options.report, "warn": options.report}
         return {name: os.path.abspath(file) for name, file in given.items() if file}
     return {name: os.path.join(TOP, "crates", crate, "out", crate) for name, crate in crates.items()}
 

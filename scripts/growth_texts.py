@@ -257,6 +257,28 @@ def report_long(size):
     return f"type Query{{{'a' * (size - 20)}:ID}}", f"{{{'b' * (size - 20)}}}"
 
 
+def warned_operations(size):
+    """Many operations reach one fragment with many values of which warnings are told: one for each operation."""
+    head, numbers = "type Query{a(b:Float):ID}", filled(size // 2 - 24, lambda i: f"{NAMES[i]}:a(b:1e400)", " ")
+    return head, filled(size // 2, lambda i: f"query {NAMES[i]}{{...F}}") + "fragment F on Query{" + numbers + "}"
+
+
+def warned_arguments(size):
+    """Many fields are given an argument of many that are deprecated: graphql-report warns of each."""
+    return f"type Query{{a({arguments(size - 36)} zz9:ID@deprecated):ID}}", "{" + filled(size - 2, lambda i: f"{NAMES[i]}:a(zz9:1)", " ") + "}"
+
+
+def warned_interfaces(size):
+    """An object has many interfaces and a field with many arguments that these do not have: graphql-report warns of each."""
+    faces = [NAMES[i] for i in range(size // 40)]
+    return "".join(f"interface {it}{{q:ID}}" for it in faces) + "type Query implements " + "&".join(faces) + "{q(" + filled(size // 2, lambda i: f"{NAMES[i]}:ID!=1", " ") + "):ID}", "{q}"
+
+
+def warned_defaults(size):
+    """Many input fields have a default of which two warnings are told."""
+    return "type Query{a(b:I):ID}input I{" + filled(size - 30, lambda i: f"{NAMES[i]}:[[Int]]=[1.5]", " ") + "}", "{a}"
+
+
 # ---- names of one hash
 
 # Of the hash of names: its first state, before the length is added, what it multiplies by, and the greatest word.
@@ -593,6 +615,10 @@ FAMILIES = [
     family(report_fragments, 1_000, program="report", told=True),
     family(like_names, 1_000, program="report", told=True),
     family(report_long, 2_000, program="report", told=True),
+    family(warned_operations, 5_000, program="warn", bound=4.3),
+    family(warned_arguments, 2_000, program="warn"),
+    family(warned_interfaces, 2_000, program="warn", bound=4.3),
+    family(warned_defaults, 2_000, program="warn"),
     family(tower_of_sets, 300, 18_800),
     family(objects_and_sets, 2_000, bound=4.3),
     family(levels_of_fields, 4_000),

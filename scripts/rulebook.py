@@ -355,13 +355,17 @@ def wrong_parts(found):
 
 def write(found):
     for path in sorted({part.path for part in found}):
-        lines = sources.read(path).split("\n")
+        before = sources.read(path)
+        lines = before.split("\n")
         for part in found:
             if part.path == path:
                 start, end = part.find(lines)
                 lines[start:end] = part.made
+        if "\n".join(lines) == before:
+            continue
         with open(os.path.join(sources.TOP, path), "w", encoding="utf-8") as file:
             file.write("\n".join(lines))
+        print(f"{path} is written")
 
 
 def count(found):

@@ -20,6 +20,7 @@ PLACES = [
     ("python/graphql_checked/_version.py", r'(__version__ = ")([^"]*)(")', "full"),
     ("node/package.json", r'("version": ")([^"]*)(")', "full"),
     ("crates/report_cli/src/command.rt", r'(\.version\(")([^"]*)("\))', "full"),
+    ("crates/report_cli/src/sarif.rt", r'(graphql-report\\",\\"version\\":\\")([^"\\]*)(\\")', "full"),
     ("docs/REPOSITORY.md", r"(rev: v)([\d.]*\d)()", "full"),
     ("docs/REPOSITORY.md", r"(graphql-checked@v)([\d.]*\d)()", "full"),
     ("docs/REPOSITORY.md", r"(graphql_checked-)([\d.]*\d)(-)", "full"),

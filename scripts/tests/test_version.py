@@ -11,6 +11,7 @@ def texts(full, short, number):
         "python/graphql_checked/_version.py": f'__version__ = "{full}"\n',
         "node/package.json": f'{{"version": "{full}"}}\n',
         "crates/report_cli/src/command.rt": f'.version("{full}")\n',
+        "crates/report_cli/src/sarif.rt": f'graphql-report\\",\\"version\\":\\"{full}\\"\n',
         "docs/REPOSITORY.md": f"rev: v{full}\ngraphql-checked@v{full}\ngraphql_checked-{full}-py3\n",
     }
 

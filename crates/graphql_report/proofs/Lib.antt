@@ -5,3 +5,5 @@ pub mod Finding
 pub mod Taking
 pub mod Warning
 pub mod Offering
+pub mod Once
+pub mod Spelled

@@ -4,3 +4,5 @@ pub mod Taken
 pub mod Reports
 pub mod Warnings
 pub mod Offered
+pub mod Alike
+pub mod WarningViews

@@ -34,18 +34,18 @@ pub record Tells (sources : List Source) (name : List ℕ) (fault : DetailsAt Pl
   pub message : string_bytes e.message ≡ details_message fault.details
   pub related : HasPlaces sources fault.place fault.details e.related.items
 
--- the entries tell the faults that have these ranks, one after another
-abbrev pub AreTold : List Source → List ℕ → List (DetailsAt Place (List Place)) → List Rank → List Entry → Type 0
-AreTold sources name faults [] [] = ⊤
-AreTold sources name faults [] (e ∷ es) = ⊥
-AreTold sources name faults (r ∷ rs) [] = ⊥
-AreTold sources name faults (r ∷ rs) (e ∷ es) = IsSomeAnd (slice_get faults r.told) (λ fault. Tells sources name fault e) × AreTold sources name faults rs es
+-- the entries are of what has these ranks among all that is told, one after another
+abbrev pub AreRanked : {A : Type 0} → (A → Entry → Type 0) → List A → List Rank → List Entry → Type 0
+AreRanked Says all [] [] = ⊤
+AreRanked Says all [] (e ∷ es) = ⊥
+AreRanked Says all (r ∷ rs) [] = ⊥
+AreRanked Says all (r ∷ rs) (e ∷ es) = IsSomeAnd (slice_get all r.told) (λ a. Says a e) × AreRanked Says all rs es
 
 -- the entries tell the faults, each once, in the order of texts and places
 pub record IsReport (sources : List Source) (name : List ℕ) (faults : List (DetailsAt Place (List Place))) (entries : List Entry) : Type 0 where
   pub ranks : List Rank
   pub order : IsOrder (map (λ (f : DetailsAt Place (List Place)). f.place) faults) ranks
-  pub told : AreTold sources name faults ranks entries
+  pub told : AreRanked (Tells sources name) faults ranks entries
 
 -- the report of a document's faults: its text comes after those of the schema
 pub record IsDocumentReport (schemas : List Source) (path text : List ℕ) (faults : List (DetailsAt Place (List Place))) (entries : List Entry) : Type 0 where

@@ -9,6 +9,7 @@ use rule_warnings::DeprecatedUse;
 use schema_fold::BuildError as FoldingError;
 use std::alloc::{AllocError, Global};
 use std::fmt::Display;
+use strict_values::Departure;
 
 /// Each name and each type of the fault's data, in their order.
 pub(crate) fn fields_of(alloc: Global, details: &Details) -> Result<Vec<Field>, AllocError> {
@@ -27,6 +28,16 @@ pub(crate) fn fields_of_use(alloc: Global, one: &DeprecatedUse) -> Result<Vec<Fi
     let mut fields = Fields::new(alloc);
     fields.put("coordinate", &one.coordinate);
     fields.put("reason", &one.reason());
+    fields.finish()
+}
+
+/// The name that a departure mentions, if it mentions one.
+pub(crate) fn fields_of_departure(
+    alloc: Global,
+    one: &Departure,
+) -> Result<Vec<Field>, AllocError> {
+    let mut fields = Fields::new(alloc);
+    fields.put_if_any(&one.name);
     fields.finish()
 }
 

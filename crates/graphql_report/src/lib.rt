@@ -3,11 +3,13 @@
 //!
 //! For the layer above: [`Report::new`] has an entry for each fault, in the order of texts and places; its clause says where each
 //! entry is, what rule it names, what it tells and which places belong to it (`specs/Reports.antt`).
-//! [`Report::of_warnings`] has an entry for each use of what is deprecated (`specs/Warnings.antt`).
+//! [`Report::of_warnings`] and [`Report::of_schema_warnings`] have an entry for each use of what is deprecated and for what the
+//! specification does not allow, in the same order (`specs/Warnings.antt`).
 //!
 //! Begin with `report.rt`, then `warnings.rt`.
 #![tactic(auto)]
 
+mod alike;
 mod brackets;
 mod entries;
 mod fields;
@@ -26,3 +28,4 @@ pub use report::Report;
 pub use report_forms::{
     Entry, Excerpt, Field, Lines, Place, Position, Related, Severity, Source, shown,
 };
+pub use strict_documents::StrictSchema;

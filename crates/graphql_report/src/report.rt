@@ -12,7 +12,7 @@ use report_forms::{Entry, Lines, Source, order_of};
 use std::alloc::{AllocError, Global};
 use std::marker::Model;
 
-/// What is told of faults or warnings; of faults in the order of texts and places, those without a place first.
+/// What is told of faults or warnings, in the order of texts and places, those without a place first.
 ///
 /// A contract sees it as its entries.
 pub struct Report {

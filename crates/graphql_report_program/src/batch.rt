@@ -1,7 +1,9 @@
 //! Documents as lines of JSON, and other schemas between them.
 
-use crate::{entries_of, faults_of, report_of_schema, schema_of, warnings_of};
-use graphql_checked::{CheckedSchema, Layout, Refusal};
+use crate::{
+    OpenSchema, entries_of, faults_of, open_schema, report_of_schema, schema_of, warnings_of,
+};
+use graphql_checked::{Layout, Refusal};
 use graphql_report::Report;
 use report_cli::{
     Asked, Request, SchemaRequest, Settings, Stop, Tally, Telling, Why, answer_accepted,
@@ -18,7 +20,7 @@ type InputLines = Lines<BufReader<Stdin>>;
 pub(crate) fn check_batch(
     rt: &HostRuntime,
     telling: &Telling<'_>,
-    schema: &CheckedSchema,
+    schema: &OpenSchema<'_>,
     tally: &mut Tally,
 ) -> Result<(), Stop> {
     let Ok(reader) = BufReader::new(rt.alloc(), rt.stdin()) else {
@@ -83,6 +85,7 @@ fn answer_opened(
     match schema_of(rt.alloc(), &request.texts, telling.settings.nesting) {
         Ok(schema) => {
             answer_schema_accepted(rt, &request.id)?;
+            let schema = open_schema(rt.alloc(), telling.settings, &schema)?;
             answer_lines(rt, telling, Some(&schema), lines, number, tally)
         }
         Err(refusal) => {
@@ -108,7 +111,7 @@ fn answer_refusal(
 fn answer_lines(
     rt: &HostRuntime,
     telling: &Telling<'_>,
-    schema: Option<&CheckedSchema>,
+    schema: Option<&OpenSchema<'_>>,
     lines: &mut InputLines,
     number: &mut usize,
     tally: &mut Tally,
@@ -127,7 +130,7 @@ fn answer_lines(
 fn answer_line(
     rt: &HostRuntime,
     telling: &Telling<'_>,
-    schema: Option<&CheckedSchema>,
+    schema: Option<&OpenSchema<'_>>,
     asked: &Asked,
     number: usize,
     tally: &mut Tally,
@@ -146,15 +149,15 @@ fn answer_line(
 fn answer(
     rt: &HostRuntime,
     telling: &Telling<'_>,
-    schema: &CheckedSchema,
+    schema: &OpenSchema<'_>,
     request: &Request,
     tally: &mut Tally,
 ) -> Result<(), Stop> {
     let text = request.document.as_str();
-    match schema.check(text) {
+    match schema.checked.check(text) {
         Ok(checked) => {
             let written = checked.written(Layout::OneLine)?;
-            let report = warnings_of(rt.alloc(), telling, &checked, "document", text)?;
+            let report = warnings_of(rt.alloc(), telling, schema, &checked, "document", text)?;
             let warnings = entries_of(&report);
             answer_accepted(rt, telling.settings, &request.id, &written, warnings, tally)
         }
@@ -164,7 +167,7 @@ fn answer(
                 rt.alloc(),
                 faults,
                 telling.schemas,
-                schema.schema(),
+                schema.checked.schema(),
                 "document",
                 text,
             )?;

@@ -1,19 +1,19 @@
 //! Checks documents over a schema, and tells each fault at its line and column.
 //!
-//! `graphql-report [--format text|short|json|github] [--color auto|always|never] [--warn] [--deny warnings] [--nesting N]
+//! `graphql-report [--format text|short|json|github|sarif] [--color auto|always|never] [--warn] [--deny warnings] [--nesting N]
 //! [--max-faults N] --schema FILE [--schema FILE].. [--quiet] [DOCUMENT..]` checks the schema once, and then each document by
 //! itself; `-` is standard input. With `--batch` documents come from standard input, a JSON object a line, and other schemas between
-//! them. With `--warn` uses of what is deprecated are told of each document that is accepted.
+//! them. With `--warn` what is deprecated, and what the specification does not allow, is told of what is accepted.
 //!
-//! Begin with `check`: `schema_of`, `report_of_schema`, `check_document`, `warnings_of` and `answer` are the calls of the library. What
-//! it takes, prints and counts is in `report_cli`.
+//! Begin with `check`: `schema_of`, `report_of_schema`, `open_schema`, `check_document`, `warnings_of` and `answer` are the calls of the
+//! library. What it takes, prints and counts is in `report_cli`.
 #![tactic(auto)]
 
 mod batch;
 
 use crate::batch::check_batch;
 use graphql_checked::{CheckedDocument, CheckedSchema, Checker, DiagnosticList, Limits, Refusal};
-use graphql_report::{Entry, Report, Severity};
+use graphql_report::{Entry, Report, Severity, StrictSchema};
 use report_cli::{
     LintLevel, Settings, Stop, Tally, Telling, lines_of, read_document, read_schema, read_settings,
     read_words, sources_of, tell_end, tell_progress,
@@ -21,6 +21,37 @@ use report_cli::{
 use std::alloc::{AllocError, Global};
 use std::mem::forget;
 use std::process::ExitCode;
+
+/// A schema over which documents are checked, and what warnings need of it, if they are asked for.
+pub(crate) struct OpenSchema<'a> {
+    checked: &'a CheckedSchema,
+    strict: Option<StrictSchema<'a>>,
+}
+
+impl Drop for OpenSchema<'_> {
+    fn drop(self) {
+        let OpenSchema {
+            checked: _,
+            strict: _,
+        } = self;
+    }
+}
+
+/// The schema, with what warnings need of it, if they are asked for.
+fn open_schema<'a>(
+    alloc: Global,
+    settings: &Settings,
+    schema: &'a CheckedSchema,
+) -> Result<OpenSchema<'a>, AllocError> {
+    let strict = match settings.lints {
+        LintLevel::Allow => None,
+        LintLevel::Warn | LintLevel::Deny => Some(StrictSchema::new(alloc, schema.schema())?),
+    };
+    Ok(OpenSchema {
+        checked: schema,
+        strict,
+    })
+}
 
 /// The schema of the texts, if they are read and every rule on schemas holds.
 fn schema_of(alloc: Global, texts: &[String], nesting: usize) -> Result<CheckedSchema, Refusal> {
@@ -39,17 +70,22 @@ fn faults_of(refusal: &Refusal) -> Result<&DiagnosticList, Stop> {
     }
 }
 
-/// Why the schema is refused, what has no place under the path of its first text.
+/// The path of the schema's first text, under which what has no place is told.
+fn schema_path<'a>(telling: &Telling<'a>) -> &'a str {
+    match telling.schemas.first() {
+        Some(source) => source.path,
+        None => "schema",
+    }
+}
+
+/// Why the schema is refused.
 fn report_of_schema(
     alloc: Global,
     telling: &Telling<'_>,
     refusal: &Refusal,
 ) -> Result<Report, Stop> {
     let faults = faults_of(refusal)?;
-    let path = match telling.schemas.first() {
-        Some(source) => source.path,
-        None => "schema",
-    };
+    let path = schema_path(telling);
     let report = Report::new(alloc, faults, telling.schemas, None, path)?;
     Ok(report)
 }
@@ -70,21 +106,33 @@ fn tell_schema(
 fn warnings_of(
     alloc: Global,
     telling: &Telling<'_>,
+    schema: &OpenSchema<'_>,
     checked: &CheckedDocument<'_>,
     path: &str,
     text: &str,
 ) -> Result<Option<Report>, AllocError> {
-    if matches!(telling.settings.lints, LintLevel::Allow) {
+    let Some(strict) = &schema.strict else {
+        return Ok(None);
+    };
+    let document = checked.document();
+    let report = Report::of_warnings(alloc, strict, document, telling.schemas, path, text)?;
+    Ok(Some(report))
+}
+
+/// The warnings about the schema, if they are asked for. Lines of a batch have no place for them.
+fn schema_warnings(
+    alloc: Global,
+    telling: &Telling<'_>,
+    schema: &OpenSchema<'_>,
+) -> Result<Option<Report>, AllocError> {
+    let Some(strict) = &schema.strict else {
+        return Ok(None);
+    };
+    if telling.settings.batch {
         return Ok(None);
     }
-    let report = Report::of_warnings(
-        alloc,
-        checked.schema().schema(),
-        checked.document(),
-        telling.schemas,
-        path,
-        text,
-    )?;
+    let path = schema_path(telling);
+    let report = Report::of_schema_warnings(alloc, strict, telling.schemas, path)?;
     Ok(Some(report))
 }
 
@@ -100,17 +148,17 @@ fn entries_of(report: &Option<Report>) -> &[Entry] {
 fn check_document(
     rt: &HostRuntime,
     telling: &Telling<'_>,
-    schema: &CheckedSchema,
+    schema: &OpenSchema<'_>,
     path: &str,
     tally: &mut Tally,
 ) -> Result<(), Stop> {
     let Some(text) = read_document(rt, telling.settings, path, tally)? else {
         return Ok(());
     };
-    match schema.check(&text) {
+    match schema.checked.check(&text) {
         Ok(checked) => {
             tally.add_accepted();
-            let report = warnings_of(rt.alloc(), telling, &checked, path, &text)?;
+            let report = warnings_of(rt.alloc(), telling, schema, &checked, path, &text)?;
             let warnings = entries_of(&report);
             telling.tell(rt, Some(path), Severity::Warning, warnings, tally)
         }
@@ -120,7 +168,7 @@ fn check_document(
                 rt.alloc(),
                 faults,
                 telling.schemas,
-                schema.schema(),
+                schema.checked.schema(),
                 path,
                 &text,
             )?;
@@ -130,6 +178,17 @@ fn check_document(
     }
 }
 
+/// Tells that the schema is accepted, and the warnings about it.
+fn tell_accepted(
+    rt: &HostRuntime,
+    telling: &Telling<'_>,
+    schema: &OpenSchema<'_>,
+    tally: &mut Tally,
+) -> Result<(), Stop> {
+    let report = schema_warnings(rt.alloc(), telling, schema)?;
+    telling.tell(rt, None, Severity::Warning, entries_of(&report), tally)
+}
+
 /// Tells that the schema is accepted, and checks the documents that are asked for, each by itself.
 fn check_documents(
     rt: &HostRuntime,
@@ -137,7 +196,8 @@ fn check_documents(
     schema: &CheckedSchema,
     tally: &mut Tally,
 ) -> Result<(), Stop> {
-    telling.tell(rt, None, Severity::Error, &[], tally)?;
+    let schema = &open_schema(rt.alloc(), telling.settings, schema)?;
+    tell_accepted(rt, telling, schema, tally)?;
     for (done, path) in telling.settings.documents.iter().enumerate() {
         tell_progress(rt, telling.settings, done);
         check_document(rt, telling, schema, path, tally)?;

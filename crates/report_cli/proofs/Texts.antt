@@ -67,12 +67,14 @@ judged_between : (front accepted faults back : List ℕ)
 judged_between front accepted faults back =
     ap (λ l. front ++ l) (five (codes ",\"accepted\":") accepted (codes ",\"faults\":") faults back) ∙ three front (codes ",\"accepted\":" ++ accepted ++ codes ",\"faults\":" ++ faults) back
 
-pub schema_made : (paths accepted : List ℕ) (faults : ℕ)
-    → codes "{\"schema\":[" ++ (paths ++ (codes "],\"accepted\":" ++ (accepted ++ (codes ",\"faults\":" ++ (decimal faults ++ codes "}\n")))))
-    ≡ codes "{\"schema\":[" ++ paths ++ codes "]" ++ (codes ",\"accepted\":" ++ accepted ++ codes ",\"faults\":" ++ decimal faults) ++ codes "}\n"
-schema_made paths accepted faults =
-    four (codes "{\"schema\":[") paths (codes "]") (codes ",\"accepted\":" ++ (accepted ++ (codes ",\"faults\":" ++ (decimal faults ++ codes "}\n"))))
-    ∙ judged_between (codes "{\"schema\":[" ++ paths ++ codes "]") accepted (decimal faults) (codes "}\n")
+pub schema_made : (paths accepted : List ℕ) (faults : ℕ) (warnings : List ℕ)
+    → codes "{\"schema\":[" ++ (paths ++ (codes "],\"accepted\":" ++ (accepted ++ (codes ",\"faults\":" ++ (decimal faults ++ (warnings ++ codes "}\n"))))))
+    ≡ codes "{\"schema\":[" ++ paths ++ codes "]" ++ (codes ",\"accepted\":" ++ accepted ++ codes ",\"faults\":" ++ decimal faults) ++ warnings ++ codes "}\n"
+schema_made paths accepted faults warnings =
+    let front = codes "{\"schema\":[" ++ paths ++ codes "]" in
+    four (codes "{\"schema\":[") paths (codes "]") (codes ",\"accepted\":" ++ (accepted ++ (codes ",\"faults\":" ++ (decimal faults ++ (warnings ++ codes "}\n")))))
+    ∙ judged_between front accepted (decimal faults) (warnings ++ codes "}\n")
+    ∙ three (front ++ (codes ",\"accepted\":" ++ accepted ++ codes ",\"faults\":" ++ decimal faults)) warnings (codes "}\n")
 
 pub document_made : (path accepted : List ℕ) (faults : ℕ) (warnings : List ℕ)
     → codes "{\"document\":" ++ (path ++ (codes ",\"accepted\":" ++ (accepted ++ (codes ",\"faults\":" ++ (decimal faults ++ (warnings ++ codes "}\n"))))))

@@ -88,8 +88,8 @@ document_text path faults warnings = codes "{\"document\":" ++ quoted path ++ ju
 abbrev pub paths_text : List (List ℕ) → List ℕ
 paths_text paths = join_by quoted (codes ",") paths
 
-abbrev pub schema_text : List (List ℕ) → ℕ → List ℕ
-schema_text paths faults = codes "{\"schema\":[" ++ paths_text paths ++ codes "]" ++ judged_text faults ++ codes "}\n"
+abbrev pub schema_text : List (List ℕ) → ℕ → Option ℕ → List ℕ
+schema_text paths faults warnings = codes "{\"schema\":[" ++ paths_text paths ++ codes "]" ++ judged_text faults ++ count_member warnings ++ codes "}\n"
 
 -- the record of a text of a kind that cannot be read
 abbrev pub unread_text : List ℕ → List ℕ → List ℕ → List ℕ

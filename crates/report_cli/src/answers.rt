@@ -118,17 +118,22 @@ pub(crate) fn wrong_line(
     format!(in alloc; "{{\"id\":{id},\"accepted\":false,\"line\":{number},\"error\":\"{why}\"}}\n")
 }
 
-/// The record of the schema of the texts under these paths: `{"schema":[PATHS],"accepted":true,"faults":0}`.
+/// The record of the schema of the texts under these paths: `{"schema":[PATHS],"accepted":true,"faults":0}`, with the number of
+/// warnings if they are told.
 pub(crate) fn schema_record(
     alloc: Global,
     paths: &[String],
     faults: usize,
+    warnings: Option<usize>,
 ) -> Result<String, AllocError>
-    ensures { IfOk result (λ line. string_bytes line ≡ schema_text (map string_bytes paths.now) faults) }
+    ensures { IfOk result (λ line. string_bytes line ≡ schema_text (map string_bytes paths.now) faults warnings) }
 {
     let paths = quoted_paths(alloc, paths)?;
     let is_accepted = faults == 0;
-    format!(in alloc; "{{\"schema\":[{paths}],\"accepted\":{is_accepted},\"faults\":{faults}}}\n")
+    let warnings = count_member(alloc, warnings)?;
+    format!(in alloc;
+        "{{\"schema\":[{paths}],\"accepted\":{is_accepted},\"faults\":{faults}{warnings}}}\n"
+    )
 }
 
 /// The paths as JSON, with a comma between each two.

@@ -4,7 +4,7 @@ use clap::{Arg, ArgAction, Command};
 use std::alloc::{AllocError, Global};
 
 /// The words for forms.
-static FORMS: [&str; 4] = ["text", "short", "json", "github"];
+static FORMS: [&str; 5] = ["text", "short", "json", "github", "sarif"];
 /// The words for when the form `text` has colours.
 static COLORS: [&str; 3] = ["auto", "always", "never"];
 /// The words for what is denied.
@@ -92,7 +92,9 @@ fn warn_option<'a>(alloc: Global) -> Arg<'a> {
     Arg::new(alloc, "warn")
         .long("warn")
         .action(ArgAction::SetTrue)
-        .help("Tells uses of what is deprecated in documents that are accepted")
+        .help(
+            "Tells what is deprecated, and what the specification does not allow, in what is accepted",
+        )
 }
 
 /// The option for warnings that count as faults.

@@ -3,6 +3,7 @@
 use crate::answers::summary_record;
 use crate::files::{DEVICE, MEMORY, Stop, put};
 use crate::folders::files_of;
+use crate::sarif::SARIF_TAIL;
 use crate::settings::{Color, Format, LintLevel, Settings};
 use crate::tally::Tally;
 use clap::Error;
@@ -93,9 +94,12 @@ pub fn tell_end(rt: &HostRuntime, settings: &Settings, tally: Tally, done: Resul
     else {
         return Stop::Memory.tell(rt, tally);
     };
-    if matches!(settings.format, Format::Json)
-        && let Err(stop) = put(rt, &record)
-    {
+    let ended = match settings.format {
+        Format::Json => put(rt, &record),
+        Format::Sarif => put(rt, SARIF_TAIL),
+        Format::Text | Format::Coloured | Format::Short | Format::Github => Ok(()),
+    };
+    if let Err(stop) = ended {
         return stop.tell(rt, tally);
     }
     if !settings.quiet {

@@ -19,6 +19,8 @@ pub enum Format {
     Short,
     Json,
     Github,
+    /// A log of SARIF 2.1.0.
+    Sarif,
 }
 
 /// When the form `Text` has colours.
@@ -30,7 +32,7 @@ pub enum Color {
     Never,
 }
 
-/// What is done about uses of what is deprecated.
+/// What is done about warnings.
 #[derive(Clone, Copy)]
 pub enum LintLevel {
     /// They are not told.
@@ -68,7 +70,7 @@ pub struct Settings {
     pub format: Format,
     /// When there are colours.
     pub color: Color,
-    /// What is done about uses of what is deprecated.
+    /// What is done about warnings.
     pub lints: LintLevel,
     /// How many brackets may be open at once.
     pub nesting: usize,
@@ -101,7 +103,7 @@ impl Drop for Settings {
 }
 
 impl Settings {
-    /// Reads the words, the program's name first: `[--format text|short|json|github] [--color auto|always|never] [--warn]
+    /// Reads the words, the program's name first: `[--format text|short|json|github|sarif] [--color auto|always|never] [--warn]
     /// [--deny warnings] [--nesting N] [--max-faults N] --schema FILE [--schema FILE].. [--batch] [--quiet] [DOCUMENT..]`.
     ///
     /// An error has the text for the user: a fault of the words, what `--help` or `--version` shows, or out of memory.
@@ -118,6 +120,7 @@ fn settings_in(alloc: Global, matches: &ArgMatches<'_>) -> Result<Settings, Allo
             Some("short") => Format::Short,
             Some("json") => Format::Json,
             Some("github") => Format::Github,
+            Some("sarif") => Format::Sarif,
             _ => Format::Text,
         },
         color: match matches.get_str("color") {

@@ -27,9 +27,9 @@ pub struct Tally {
     pub refused_schemas: usize,
     /// How many faults are told of them, or of schemas.
     pub faults: usize,
-    /// How many warnings are told of the others.
+    /// How many warnings are told of the others, and of the schema.
     pub warnings: usize,
-    /// What is done about uses of what is deprecated.
+    /// What is done about warnings.
     pub lints: LintLevel,
     /// Whether the schema is refused, or is all that was asked for.
     pub is_of_schema: bool,

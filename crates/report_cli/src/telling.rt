@@ -3,6 +3,7 @@
 use crate::answers::{document_record, schema_record};
 use crate::files::{Stop, put};
 use crate::folding::{Printed, folded};
+use crate::sarif::{SARIF_HEAD, sarif_result, sarif_results};
 use crate::settings::{Format, Settings};
 use crate::tally::Tally;
 use report_forms::{Entry, Lines, Severity, Source};
@@ -23,8 +24,8 @@ pub struct Telling<'a> {
 
 impl Telling<'_> {
     /// Counts the faults that are told of a document, or of the schema if there is no path, or the warnings, and prints as many
-    /// as are asked for. Lines of JSON are for programs, which fold them as they like: there each has its line, and after them the
-    /// document or the schema has one, also if it is accepted.
+    /// as are asked for. Lines of JSON and results of SARIF are for programs, which fold them as they like: there each has its line.
+    /// After lines of JSON the document or the schema has one, also if it is accepted; a log of SARIF begins with the schema.
     pub fn tell(
         &self,
         rt: &HostRuntime,
@@ -35,9 +36,19 @@ impl Telling<'_> {
     ) -> Result<(), Stop> {
         tell_cut(rt, self.settings, severity, entries.len());
         let most = self.settings.max_faults;
+        let first = &entries[..entries.len().min(most)];
+        if matches!(self.settings.format, Format::Sarif) {
+            if document.is_none() {
+                put(rt, SARIF_HEAD)?;
+            }
+            let is_begun = tally.faults > 0 || tally.warnings > 0;
+            let before = if is_begun { ",\n" } else { "\n" };
+            tally.add_told(severity, entries.len());
+            return put(rt, &sarif_results(rt.alloc(), before, first)?);
+        }
         if matches!(self.settings.format, Format::Json) {
             tally.add_told(severity, entries.len());
-            for entry in &entries[..entries.len().min(most)] {
+            for entry in first {
                 print_formed(rt, Format::Json, entry)?;
             }
             let record = self.record(rt.alloc(), document, severity, entries.len())?;
@@ -62,11 +73,10 @@ impl Telling<'_> {
             Severity::Error => (told, 0),
             Severity::Warning => (0, told),
         };
+        let warnings = self.settings.lints.counted(warnings);
         match document {
-            None => schema_record(alloc, &self.settings.schemas, faults),
-            Some(path) => {
-                document_record(alloc, path, faults, self.settings.lints.counted(warnings))
-            }
+            None => schema_record(alloc, &self.settings.schemas, faults, warnings),
+            Some(path) => document_record(alloc, path, faults, warnings),
         }
     }
 
@@ -139,6 +149,7 @@ fn print_formed(rt: &HostRuntime, format: Format, entry: &Entry) -> Result<(), S
         Format::Short => entry.short(alloc),
         Format::Json => entry.json(alloc),
         Format::Github => entry.github(alloc),
+        Format::Sarif => sarif_result(alloc, entry),
     };
     put(rt, &formed?)
 }

@@ -1,16 +1,16 @@
--- Whether a definition is deprecated, and why, does not depend on places.
+-- Which definition has a name, whether it is deprecated, and why, does not depend on places.
 use Rattle.std.proofs.Common.{◌≡◌, ℕ, Bool, true, false, List, [], ◌∷◌, map, find, codes, Option, None, Some, refl, sym, ap, ◌∙◌, if◌then◌else◌}
 use Rattle.std.specs.Prelude.{unwrap_or}
 use Rattle.std.specs.Option.{option_map, option_and_then}
 use Rattle.graphql_names.specs.Placed.{Placed, unplaced_node}
 use Rattle.tree_literals.specs.ValueTree.{ValueTree, NullTree, EnumTree, VariableTree, StringTree, FloatTree, IntTree, BooleanTree, ListTree, ObjectTree, unplaced_value}
 use Rattle.tree_literals.specs.ValueQueries.{string_text}
-use Rattle.tree_directives.specs.DirectiveTree.{Arguments, Directives, unplaced_argument, unplaced_arguments, unplaced_directive, unplaced_directives}
-use Rattle.tree_directives.specs.DirectiveQueries.{directive_has_name, argument_has_name, given_value}
+use Rattle.tree_directives.specs.DirectiveTree.{Arguments, Directives, InputValues, unplaced_input_value, unplaced_argument, unplaced_arguments, unplaced_directive, unplaced_directives}
+use Rattle.tree_directives.specs.DirectiveQueries.{directive_has_name, argument_has_name, input_value_has_name, given_value}
 use Rattle.rule_warnings.specs.Deprecated.{reason_given, deprecation}
 
 -- what is found among what is made of a list
-pub find_mapped : {X Y : Type 0} (f : X → Y) (p : X → Bool) (q : Y → Bool) (xs : List X) → ((x : X) → q (f x) ≡ p x) → find q (map f xs) ≡ option_map f (find p xs)
+find_mapped : {X Y : Type 0} (f : X → Y) (p : X → Bool) (q : Y → Bool) (xs : List X) → ((x : X) → q (f x) ≡ p x) → find q (map f xs) ≡ option_map f (find p xs)
 find_mapped f p q [] same = refl
 find_mapped {X} {Y} f p q (x ∷ xs) same = (λ i. if same x i then Some (f x) else find_mapped f p q xs same i) ∙ pushed (p x) (find p xs)
   where
@@ -23,6 +23,10 @@ mapped_again u g h None same = refl
 mapped_again u g h (Some x) same = ap Some (same x)
 
 module _ {P : Type 0} where
+  -- a definition without its place, by name
+  pub plain_found : (n : List ℕ) (vs : InputValues P) → find (input_value_has_name n) (map (unplaced_node unplaced_input_value) vs) ≡ option_map (unplaced_node unplaced_input_value) (find (input_value_has_name n) vs)
+  plain_found n vs = find_mapped (unplaced_node unplaced_input_value) (input_value_has_name n) (input_value_has_name n) vs (λ v. refl)
+
   text_unplaced : (v : ValueTree P) → string_text (unplaced_value v) ≡ string_text v
   text_unplaced NullTree = refl
   text_unplaced (EnumTree n) = refl

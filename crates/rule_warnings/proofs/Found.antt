@@ -15,9 +15,9 @@ use Rattle.tree_directives.specs.DirectiveTree.{unplaced_input_value}
 use Rattle.tree_type_members.specs.TypeSystemTree.{unplaced_enum_value}
 use Rattle.schema_components.specs.Given.{plain_given}
 use Rattle.schema_types.specs.SchemaTree.{SchemaType, SchemaTree}
-use Rattle.schema_types.specs.Plain.{plain_type}
+use Rattle.schema_types.specs.Plain.{plain_type, plain_directive_definition}
 use Rattle.schema_types.specs.Looks.{TypeLooks, type_looks}
-use Rattle.schema_types.specs.Addresses.{under, type_at}
+use Rattle.schema_types.specs.Addresses.{under, type_at, directive_definition_at}
 use Rattle.schema_types.proofs.UnderNames.{get_under}
 use Rattle.rule_definitions.specs.Judged.{Judged, judged}
 use Rattle.rule_definitions.specs.Room.{◌⊕◌}
@@ -87,6 +87,9 @@ inner_unplaced (NamedTree n) = refl
 inner_unplaced (NonNullNamedTree n) = refl
 inner_unplaced (ListTree t) = inner_unplaced t
 inner_unplaced (NonNullListTree t) = inner_unplaced t
+
+pub directive_there : (s : SchemaTree Place) (n : List ℕ) → (judged s).directive n ≡ option_map plain_directive_definition (directive_definition_at s n)
+directive_there s n = get_under plain_directive_definition n s.directives
 
 module _ (s : SchemaTree Place) (n m : List ℕ) where
   type_under : (judged s).type_named n ≡ option_map type_looks (option_map plain_type (type_at s n))

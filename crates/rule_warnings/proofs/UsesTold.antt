@@ -1,21 +1,22 @@
 -- The uses that are told are those of the definition.
 use Rattle.std.proofs.Common.{◌≡◌, ◌⊎◌, ℕ, suc, List, [], ◌∷◌, ◌++◌, find, map, flat_map, None, Some, refl, sym, ap, subst, ◌∙◌}
-use Rattle.graphql_names.specs.Placed.{Placed, Text}
+use Rattle.graphql_names.specs.Placed.{Placed, Place, Text}
 use Rattle.tree_literals.specs.TypeQueries.{inner_name}
 use Rattle.tree_literals.specs.ValueTree.{ValueTree, ItemTrees, EntryTrees, NullTree, EnumTree, VariableTree, StringTree, FloatTree, IntTree, BooleanTree, ListTree, ObjectTree, no_items, item_then, no_entries, entry_then}
 use Rattle.tree_directives.specs.DirectiveTree.{Arguments, Directives, InputValues}
 use Rattle.tree_directives.specs.DirectiveQueries.{input_value_has_name}
 use Rattle.tree_operations.specs.SelectionTree.{FieldHead}
 use Rattle.tree_operations.specs.OperationTree.{VariableDefinitionTree}
+use Rattle.schema_types.specs.SchemaTree.{SchemaTree}
 use Rattle.schema_coordinates.specs.Coordinate.{Coordinate, OfAttribute, OfArgument, OfDirectiveArgument}
 use Rattle.spec_document.specs.MeantTree.{Definition, MeantSelection, MeantField, MeantSpread, MeantInline, MeantSet, meant_set, MeantSelections, no_meant, meant_then, MeantOperation, MeantFragment, MeantDocument}
 use Rattle.rule_definitions.specs.Words.{Present, AtSomeIndex}
-use Rattle.rule_definitions.specs.Judged.{Judged}
+use Rattle.rule_definitions.specs.Judged.{Judged, judged}
 use Rattle.rule_definitions.specs.Names.{argument_name, directive_name, named_in}
 use Rattle.rule_definitions.proofs.Listing.{Lists, lists_same, lists_both, lists_nothing, lists_one, lists_present, lists_index}
 use Rattle.rule_document_definitions.specs.Selected.{Position, InOperation, InFragment, SelectionAt, Standing, StandingField, all_in, all_from, all_below, as_field, selection_directives, operations, fragments, operation_name}
-use Rattle.rule_warnings.specs.Deprecated.{DeprecatedUse, deprecation, enum_value, input_field, IsUseOf, DeprecatedInValue, DeprecatedInItems, DeprecatedInEntries, DeprecatedInputFieldUsedAt, DeprecatedArgumentUsedAt, DeprecatedInArguments, DeprecatedInDirectives, DeprecatedInField, DeprecatedInSet, DeprecatedInVariable, DeprecatedInOperation, DeprecatedInFragment, DeprecatedUsedIn}
-use Rattle.rule_warnings.specs.Told.{Member, used_for, use_of, value_uses, item_uses, entry_uses, argument_uses, given_uses, directive_uses, directives_uses, field_uses, own_uses, selection_uses, members_in, members_from, members_below, set_uses, default_uses, variable_uses, variables_uses, operation_uses, fragment_uses, document_uses}
+use Rattle.rule_warnings.specs.Deprecated.{DeprecatedUse, deprecation, enum_value, input_field, field_definition, IsUseOf, DeprecatedInValue, DeprecatedInItems, DeprecatedInEntries, DeprecatedInputFieldUsedAt, DeprecatedArgumentUsedAt, DeprecatedFieldUsedAt, DeprecatedInArguments, DeprecatedInDirectives, DeprecatedInField, DeprecatedInSet, DeprecatedInVariable, DeprecatedInOperation, DeprecatedInFragment, DeprecatedUsedIn}
+use Rattle.rule_warnings.specs.Told.{Member, used_for, use_of, value_uses, item_uses, entry_uses, argument_uses, given_uses, directive_uses, directives_uses, defined_uses, field_uses, own_uses, selection_uses, members_in, members_from, members_below, set_uses, default_uses, variable_uses, variables_uses, operation_uses, fragment_uses, document_uses}
 use Rattle.rule_warnings.specs.declared.deprecated_use.UseKind.{UseKind}
 use Rattle.rule_warnings.specs.declared.deprecated_use.UseKind.TheVariants as kind
 
@@ -62,11 +63,20 @@ module _ {P : Type 0} (s : Judged) where
       lists_present (s.directive (directive_name d)) _ (λ defined u. DeprecatedInArguments s u (OfDirectiveArgument (directive_name d)) defined.arguments d.it.arguments)
       (λ defined there. given_told (OfDirectiveArgument (directive_name d)) defined.arguments d.it.arguments))
 
-  -- ---- selections
+  -- ---- variables
 
+  default_told : (v : VariableDefinitionTree P) → Lists (default_uses s v) (λ u. Present v.default_value (λ x. DeprecatedInValue s u (inner_name v.ty.it).it x.it))
+  default_told v = lists_present v.default_value (λ x. value_uses s (inner_name v.ty.it).it x.it) (λ x u. DeprecatedInValue s u (inner_name v.ty.it).it x.it) (λ x is. value_told (inner_name v.ty.it).it x.it)
+
+  variables_told : (vs : List (Placed P (VariableDefinitionTree P))) → Lists (variables_uses s vs) (λ u. AtSomeIndex vs (λ i v. DeprecatedInVariable s u v.it))
+  variables_told vs = lists_index vs (λ v. variable_uses s v.it) (λ i v u. DeprecatedInVariable s u v.it) (λ i v is. lists_both _ _ (default_told v.it) (directives_told v.it.directives))
+
+-- ---- selections
+
+module _ {P : Type 0} (s : SchemaTree Place) where
   -- a selection, by itself
   abbrev InStanding : Standing P → DeprecatedUse P → Type 0
-  InStanding x u = Present (as_field x) (λ f. DeprecatedInField s u f) ⊎ DeprecatedInDirectives s u (selection_directives x.it)
+  InStanding x u = Present (as_field x) (λ f. DeprecatedInField s u f) ⊎ DeprecatedInDirectives (judged s) u (selection_directives x.it)
 
   abbrev member : Standing P → Member P
   member x = (x.parent, x.it)
@@ -74,10 +84,15 @@ module _ {P : Type 0} (s : Judged) where
   abbrev field_at : Position → List ℕ → P → Definition → FieldHead P → MeantSet P → StandingField P
   field_at at ty p d h v = record { position = at; parent = ty; place = p; definition = d; head = h; set = v }
 
+  -- a field, by its definition
+  field_told : (f : StandingField P) → Lists (field_uses s f.parent f.head) (λ u. DeprecatedInField s u f)
+  field_told f = lists_present (field_definition s f.parent f.head.name.it) (defined_uses (judged s) f.parent f.head)
+      (λ d u. DeprecatedFieldUsedAt (judged s) u d f ⊎ DeprecatedInArguments (judged s) u (OfArgument f.parent f.head.name.it) d.arguments f.head.arguments)
+      (λ d is. lists_both _ _ (use_told (judged s) kind.Field (OfAttribute f.parent f.head.name.it) d.directives f.head.name)
+      (given_told (judged s) (OfArgument f.parent f.head.name.it) d.arguments f.head.arguments))
+
   own_told : (at : Position) (ty : List ℕ) (x : MeantSelection P) → Lists (own_uses s ty x) (λ u. Present (as_field (record { position = at; parent = ty; it = x })) (λ f. DeprecatedInField s u f))
-  own_told at ty (MeantField p d h v) = lists_same (field_uses s ty d h) (λ u. (λ r. (_, (refl, r)), λ q. back u q.0 q.1.0 q.1.1))
-      (lists_both (use_of kind.Field (OfAttribute ty h.name.it) (deprecation d.directives) h.name) _ (use_told kind.Field (OfAttribute ty h.name.it) d.directives h.name)
-      (given_told (OfArgument ty h.name.it) d.arguments h.arguments))
+  own_told at ty (MeantField p d h v) = lists_same (field_uses s ty h) (λ u. (λ r. (_, (refl, r)), λ q. back u q.0 q.1.0 q.1.1)) (field_told (field_at at ty p d h v))
     where
       back : (u : DeprecatedUse P) (f : StandingField P) → Some (field_at at ty p d h v) ≡ Some f → DeprecatedInField s u f → DeprecatedInField s u (field_at at ty p d h v)
       back u f e r = let same : f ≡ field_at at ty p d h v = cc in subst (DeprecatedInField s u) same r
@@ -91,7 +106,7 @@ module _ {P : Type 0} (s : Judged) where
       none u f e = cc
 
   standing_told : (x : Standing P) → Lists (selection_uses s (member x)) (InStanding x)
-  standing_told x = lists_both (own_uses s x.parent x.it) (directives_uses s (selection_directives x.it)) (own_told x.position x.parent x.it) (directives_told (selection_directives x.it))
+  standing_told x = lists_both (own_uses s x.parent x.it) (directives_uses (judged s) (selection_directives x.it)) (own_told x.position x.parent x.it) (directives_told (judged s) (selection_directives x.it))
 
   -- all that is told of these and those in them
   abbrev uses_along : List (Standing P) → List (DeprecatedUse P)
@@ -122,24 +137,18 @@ module _ {P : Type 0} where
     below_are at (MeantSpread p n ds) = refl
     below_are at (MeantInline p c ds v) = all_are at v
 
-module _ {P : Type 0} (s : Judged) where
+module _ {P : Type 0} (s : SchemaTree Place) where
   set_told : (at : Position) (v : MeantSet P) → Lists (set_uses s v) (λ (u : DeprecatedUse P). DeprecatedInSet s u at v)
   set_told at v = subst (λ l. Lists l (λ u. DeprecatedInSet s u at v)) (sym (mapped_along s (all_in at v)) ∙ ap (flat_map (selection_uses s)) (all_are at v))
       (lists_index (all_in at v) (λ x. selection_uses s (member_at x)) _ (λ i x is. standing_told s x))
 
   -- ---- documents
 
-  default_told : (v : VariableDefinitionTree P) → Lists (default_uses s v) (λ u. Present v.default_value (λ x. DeprecatedInValue s u (inner_name v.ty.it).it x.it))
-  default_told v = lists_present v.default_value (λ x. value_uses s (inner_name v.ty.it).it x.it) (λ x u. DeprecatedInValue s u (inner_name v.ty.it).it x.it) (λ x is. value_told s (inner_name v.ty.it).it x.it)
-
-  variables_told : (vs : List (Placed P (VariableDefinitionTree P))) → Lists (variables_uses s vs) (λ u. AtSomeIndex vs (λ i v. DeprecatedInVariable s u v.it))
-  variables_told vs = lists_index vs (λ v. variable_uses s v.it) (λ i v u. DeprecatedInVariable s u v.it) (λ i v is. lists_both _ _ (default_told v.it) (directives_told s v.it.directives))
-
   operation_told : (o : MeantOperation P) → Lists (operation_uses s o) (λ u. DeprecatedInOperation s u o)
-  operation_told o = lists_both _ _ (variables_told o.variables) (lists_both _ _ (directives_told s o.directives) (set_told (InOperation (operation_name o)) o.set))
+  operation_told o = lists_both _ _ (variables_told (judged s) o.variables) (lists_both _ _ (directives_told (judged s) o.directives) (set_told (InOperation (operation_name o)) o.set))
 
   fragment_told : (f : MeantFragment P) → Lists (fragment_uses s f) (λ u. DeprecatedInFragment s u f)
-  fragment_told f = lists_both _ _ (directives_told s f.directives) (set_told (InFragment f.name.it) f.set)
+  fragment_told f = lists_both _ _ (directives_told (judged s) f.directives) (set_told (InFragment f.name.it) f.set)
 
   pub document_told : (d : MeantDocument P) → Lists (document_uses s d) (λ (u : DeprecatedUse P). DeprecatedUsedIn s u d)
   document_told d = lists_both _ _ (lists_index (operations d) (operation_uses s) (λ i o u. DeprecatedInOperation s u o) (λ i o is. operation_told o))

@@ -1,18 +1,22 @@
--- Uses in a document of what is deprecated (GraphQL, October 2021, section 3.13.3): a name is used whose definition has `@deprecated`.
+-- Uses in a document of what is deprecated (GraphQL, October 2021, section 3.13.3): a name is used whose definition in the schema has
+-- `@deprecated`.
 use Rattle.std.specs.Prelude.{◌≡◌, ℕ, List, find, codes, Option, unwrap_or, ◌⊎◌}
 use Rattle.std.specs.Option.{option_map, option_and_then}
-use Rattle.graphql_names.specs.Placed.{Text}
+use Rattle.graphql_names.specs.Placed.{Place, Text}
 use Rattle.tree_literals.specs.TypeQueries.{inner_name}
 use Rattle.tree_literals.specs.ValueTree.{ValueTree, ItemTrees, EntryTrees, EnumTree, ListTree, ObjectTree, no_items, item_then, no_entries, entry_then}
 use Rattle.tree_literals.specs.ValueQueries.{string_text}
 use Rattle.tree_directives.specs.DirectiveTree.{Arguments, Directives, InputValueTree, InputValues}
 use Rattle.tree_directives.specs.DirectiveQueries.{directive_has_name, input_value_has_name, given_value}
 use Rattle.tree_operations.specs.OperationTree.{VariableDefinitionTree}
-use Rattle.tree_type_members.specs.TypeSystemTree.{EnumValueTree}
+use Rattle.tree_type_members.specs.TypeSystemTree.{EnumValueTree, unplaced_field_definition}
+use Rattle.schema_components.specs.Given.{plain_given}
+use Rattle.schema_types.specs.SchemaTree.{SchemaTree}
+use Rattle.graphql_schema.specs.LookUps.{field_named}
 use Rattle.schema_coordinates.specs.Coordinate.{Coordinate, OfAttribute, OfArgument, OfDirectiveArgument}
-use Rattle.spec_document.specs.MeantTree.{MeantSet, MeantOperation, MeantFragment, MeantDocument}
+use Rattle.spec_document.specs.MeantTree.{Definition, MeantSet, MeantOperation, MeantFragment, MeantDocument}
 use Rattle.rule_definitions.specs.Words.{Present, AtSomeIndex}
-use Rattle.rule_definitions.specs.Judged.{Judged}
+use Rattle.rule_definitions.specs.Judged.{Judged, judged}
 use Rattle.rule_definitions.specs.Names.{argument_name, directive_name, named_in}
 use Rattle.rule_document_definitions.specs.Selected.{Position, InOperation, InFragment, StandingField, all_in, as_field, field_name, selection_directives, operations, fragments, operation_name}
 use Rattle.rule_warnings.specs.declared.deprecated_use.UseKind.{UseKind}
@@ -41,14 +45,18 @@ enum_value s n m = option_and_then (λ t. t.value m) (s.type_named n)
 abbrev pub input_field : Judged → List ℕ → List ℕ → Option (InputValueTree (Unit {0}))
 input_field s n m = option_and_then (λ t. t.input m) (s.type_named n)
 
+-- the field of an object or interface, or a meta-field, by the names of the type and of the field
+abbrev pub field_definition : SchemaTree Place → List ℕ → List ℕ → Option Definition
+field_definition t n m = option_map (plain_given unplaced_field_definition) (field_named t n m)
+
 module _ {P : Type 0} (s : Judged) (use' : DeprecatedUse P) where
   -- this is the use of a name whose definition, at this coordinate, has `@deprecated` among these directives
   abbrev pub IsUseOf : UseKind → Coordinate → Directives (Unit {0}) → Text P → Type 0
   IsUseOf k coordinate ds n = Present (deprecation ds) (λ reason. use' ≡ record { place = n.place; kind = k; coordinate = coordinate; reason = reason })
 
   -- DeprecatedField: the definition of a field that is selected is deprecated
-  abbrev pub DeprecatedFieldUsedAt : StandingField P → Type 0
-  DeprecatedFieldUsedAt f = IsUseOf kind.Field (OfAttribute f.parent (field_name f)) f.definition.directives f.head.name
+  abbrev pub DeprecatedFieldUsedAt : Definition → StandingField P → Type 0
+  DeprecatedFieldUsedAt d f = IsUseOf kind.Field (OfAttribute f.parent (field_name f)) d.directives f.head.name
 
   -- DeprecatedArgument: the definition of an argument that is given is deprecated
   abbrev pub DeprecatedArgumentUsedAt : Coordinate → InputValueTree (Unit {0}) → Text P → Type 0
@@ -92,25 +100,29 @@ module _ {P : Type 0} (s : Judged) (use' : DeprecatedUse P) where
   DeprecatedInDirectives ds = AtSomeIndex ds (λ i d. Present (s.directive (directive_name d)) (λ defined.
       DeprecatedInArguments (OfDirectiveArgument (directive_name d)) defined.arguments d.it.arguments))
 
-  -- by a field, or its arguments
+  -- by the directives or the default value of a variable
+  abbrev pub DeprecatedInVariable : VariableDefinitionTree P → Type 0
+  DeprecatedInVariable v = Present v.default_value (λ x. DeprecatedInValue (inner_name v.ty.it).it x.it) ⊎ DeprecatedInDirectives v.directives
+
+module _ {P : Type 0} (t : SchemaTree Place) (use' : DeprecatedUse P) where
+  -- by a field, or its arguments, if the parent type has the field
   abbrev pub DeprecatedInField : StandingField P → Type 0
-  DeprecatedInField f = DeprecatedFieldUsedAt f ⊎ DeprecatedInArguments (OfArgument f.parent (field_name f)) f.definition.arguments f.head.arguments
+  DeprecatedInField f = Present (field_definition t f.parent (field_name f)) (λ d.
+      DeprecatedFieldUsedAt (judged t) use' d f ⊎ DeprecatedInArguments (judged t) use' (OfArgument f.parent (field_name f)) d.arguments f.head.arguments)
 
   -- ---- in a document
 
   -- by a selection at any depth of a set; fragments that are spread are not entered, since each counts by itself
   abbrev pub DeprecatedInSet : Position → MeantSet P → Type 0
-  DeprecatedInSet holder set = AtSomeIndex (all_in holder set) (λ i x. Present (as_field x) (λ f. DeprecatedInField f) ⊎ DeprecatedInDirectives (selection_directives x.it))
-
-  -- by the directives or the default value of a variable
-  abbrev pub DeprecatedInVariable : VariableDefinitionTree P → Type 0
-  DeprecatedInVariable v = Present v.default_value (λ x. DeprecatedInValue (inner_name v.ty.it).it x.it) ⊎ DeprecatedInDirectives v.directives
+  DeprecatedInSet holder set = AtSomeIndex (all_in holder set) (λ i x.
+      Present (as_field x) (λ f. DeprecatedInField f) ⊎ DeprecatedInDirectives (judged t) use' (selection_directives x.it))
 
   abbrev pub DeprecatedInOperation : MeantOperation P → Type 0
-  DeprecatedInOperation o = AtSomeIndex o.variables (λ i v. DeprecatedInVariable v.it) ⊎ (DeprecatedInDirectives o.directives ⊎ DeprecatedInSet (InOperation (operation_name o)) o.set)
+  DeprecatedInOperation o = AtSomeIndex o.variables (λ i v. DeprecatedInVariable (judged t) use' v.it)
+      ⊎ (DeprecatedInDirectives (judged t) use' o.directives ⊎ DeprecatedInSet (InOperation (operation_name o)) o.set)
 
   abbrev pub DeprecatedInFragment : MeantFragment P → Type 0
-  DeprecatedInFragment f = DeprecatedInDirectives f.directives ⊎ DeprecatedInSet (InFragment f.name.it) f.set
+  DeprecatedInFragment f = DeprecatedInDirectives (judged t) use' f.directives ⊎ DeprecatedInSet (InFragment f.name.it) f.set
 
   -- something that is deprecated is used in the document, by this use: in an operation, or in a fragment, whether or not one is spread
   abbrev pub DeprecatedUsedIn : MeantDocument P → Type 0

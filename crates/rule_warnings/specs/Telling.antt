@@ -10,16 +10,16 @@ use Rattle.graphql_names.specs.declared.name.Name.{Name}
 use Rattle.graphql_names.specs.declared.node.Node.{Node}
 use Rattle.tree_literals.specs.ValueTree.{value_tree}
 use Rattle.tree_literals.specs.declared.value.Value.{Value}
-use Rattle.tree_directives.specs.DirectiveTree.{Arguments, Directives, InputValueTree, InputValues, argument_tree, directive_tree, input_value_tree, unplaced_input_value}
+use Rattle.tree_directives.specs.DirectiveTree.{Arguments, Directives, InputValues, argument_tree, directive_tree, input_value_tree, unplaced_input_value}
 use Rattle.tree_directives.specs.declared.directive.Argument.{Argument}
 use Rattle.tree_directives.specs.declared.directive.Directive.{Directive}
 use Rattle.tree_directives.specs.declared.input_value.InputValueDefinition.{InputValueDefinition}
 use Rattle.tree_operations.specs.OperationTree.{VariableDefinitionTree, variable_definition_tree}
 use Rattle.tree_operations.specs.declared.operation.VariableDefinition.{VariableDefinition}
-use Rattle.tree_type_members.specs.TypeSystemTree.{unplaced_field_definition}
+use Rattle.schema_types.specs.SchemaTree.{SchemaTree}
 use Rattle.schema_coordinates.specs.Coordinate.{Coordinate, OfAttribute, OfArgument, OfDirectiveArgument}
 use Rattle.document_typed_selections.specs.TypedTree.{typed_selection_tree}
-use Rattle.document_typed_selections.specs.TypedParts.{own_definition, typed_head}
+use Rattle.document_typed_selections.specs.TypedParts.{typed_head}
 use Rattle.document_typed_selections.specs.declared.selection.Field.{Field}
 use Rattle.document_typed_selections.specs.declared.selection.Selection.{Selection}
 use Rattle.spec_document.specs.MeantTree.{meant}
@@ -59,9 +59,6 @@ abbrev pub use_by : Owner → Option (List ℕ) → Text Place → List (Depreca
 use_by o reason n = use_of (kind_by o) (coordinate_by o n.it) reason n
 
 -- definitions of arguments without their places
-abbrev pub plain_definition : Node InputValueDefinition → Placed (Unit {0}) (InputValueTree (Unit {0}))
-plain_definition v = unplaced_node unplaced_input_value (node_tree input_value_tree v)
-
 abbrev pub plain_definitions : List (Node InputValueDefinition) → InputValues (Unit {0})
 plain_definitions vs = map (unplaced_node unplaced_input_value) (map (node_tree input_value_tree) vs)
 
@@ -95,11 +92,12 @@ module _ (s : Judged) where
   abbrev pub directive_uses_of : Node Directive → List (DeprecatedUse Place)
   directive_uses_of d = directive_uses s (node_tree directive_tree d)
 
-  abbrev pub field_uses_of : NameValue → Field → List (DeprecatedUse Place)
-  field_uses_of ty f = field_uses s ty.text (unplaced_field_definition (own_definition f).it) (typed_head f)
-
-  abbrev pub selection_uses_of : NameValue → Selection → List (DeprecatedUse Place)
-  selection_uses_of ty x = selection_uses s (ty.text, meant (typed_selection_tree x))
-
   abbrev pub variable_uses_of : Node VariableDefinition → List (DeprecatedUse Place)
   variable_uses_of v = variable_uses s (variable_definition_tree (content v))
+
+module _ (t : SchemaTree Place) where
+  abbrev pub field_uses_of : NameValue → Field → List (DeprecatedUse Place)
+  field_uses_of ty f = field_uses t ty.text (typed_head f)
+
+  abbrev pub selection_uses_of : NameValue → Selection → List (DeprecatedUse Place)
+  selection_uses_of ty x = selection_uses t (ty.text, meant (typed_selection_tree x))

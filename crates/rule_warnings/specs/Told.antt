@@ -1,19 +1,20 @@
 -- Private: leads to `DeprecatedUsedIn`. What is told of a document, in the order of the text.
 use Rattle.std.specs.Prelude.{ℕ, List, [], ◌∷◌, ◌++◌, find, flat_map, Option}
 use Rattle.std.specs.Option.{option_map_or}
-use Rattle.graphql_names.specs.Placed.{Placed, Text}
+use Rattle.graphql_names.specs.Placed.{Placed, Place, Text}
 use Rattle.tree_literals.specs.TypeQueries.{inner_name}
 use Rattle.tree_literals.specs.ValueTree.{ValueTree, ItemTrees, EntryTrees, EnumTree, ListTree, ObjectTree, no_items, item_then, no_entries, entry_then}
 use Rattle.tree_directives.specs.DirectiveTree.{ArgumentTree, Arguments, DirectiveTree, Directives, InputValues}
 use Rattle.tree_directives.specs.DirectiveQueries.{input_value_has_name}
 use Rattle.tree_operations.specs.SelectionTree.{FieldHead}
 use Rattle.tree_operations.specs.OperationTree.{VariableDefinitionTree}
+use Rattle.schema_types.specs.SchemaTree.{SchemaTree}
 use Rattle.schema_coordinates.specs.Coordinate.{Coordinate, OfAttribute, OfArgument, OfDirectiveArgument}
 use Rattle.spec_document.specs.MeantTree.{Definition, MeantSelection, MeantField, MeantSpread, MeantInline, MeantSet, meant_set, MeantSelections, no_meant, meant_then, MeantOperation, MeantFragment, MeantDocument}
-use Rattle.rule_definitions.specs.Judged.{Judged}
+use Rattle.rule_definitions.specs.Judged.{Judged, judged}
 use Rattle.rule_definitions.specs.Names.{argument_name, directive_name, named_in}
 use Rattle.rule_document_definitions.specs.Selected.{selection_directives, operations, fragments}
-use Rattle.rule_warnings.specs.Deprecated.{DeprecatedUse, deprecation, enum_value, input_field}
+use Rattle.rule_warnings.specs.Deprecated.{DeprecatedUse, deprecation, enum_value, input_field, field_definition}
 use Rattle.rule_warnings.specs.declared.deprecated_use.UseKind.{UseKind}
 use Rattle.rule_warnings.specs.declared.deprecated_use.UseKind.TheVariants as kind
 
@@ -96,20 +97,10 @@ module _ {P : Type 0} (s : Judged) where
   abbrev pub directives_uses : Directives P → List (DeprecatedUse P)
   directives_uses ds = flat_map directive_uses ds
 
-  abbrev pub field_uses : List ℕ → Definition → FieldHead P → List (DeprecatedUse P)
-  field_uses ty d h = use_of kind.Field (OfAttribute ty h.name.it) (deprecation d.directives) h.name
+  -- of a field on the type of this name, by its definition
+  abbrev pub defined_uses : List ℕ → FieldHead P → Definition → List (DeprecatedUse P)
+  defined_uses ty h d = use_of kind.Field (OfAttribute ty h.name.it) (deprecation d.directives) h.name
       ++ given_uses kind.Argument (OfArgument ty h.name.it) d.arguments h.arguments
-
-  abbrev pub own_uses : List ℕ → MeantSelection P → List (DeprecatedUse P)
-  own_uses ty (MeantField p d h v) = field_uses ty d h
-  own_uses ty _ = []
-
-  -- of a selection, apart from those in its set
-  abbrev pub selection_uses : Member P → List (DeprecatedUse P)
-  selection_uses e = own_uses e.0 e.1 ++ directives_uses (selection_directives e.1)
-
-  abbrev pub set_uses : MeantSet P → List (DeprecatedUse P)
-  set_uses v = flat_map selection_uses (members_in v)
 
   abbrev pub default_uses : VariableDefinitionTree P → List (DeprecatedUse P)
   default_uses v = option_map_or (λ x. value_uses (inner_name v.ty.it).it x.it) v.default_value []
@@ -120,11 +111,27 @@ module _ {P : Type 0} (s : Judged) where
   abbrev pub variables_uses : List (Placed P (VariableDefinitionTree P)) → List (DeprecatedUse P)
   variables_uses vs = flat_map (λ v. variable_uses v.it) vs
 
+module _ {P : Type 0} (t : SchemaTree Place) where
+  -- of a field, if the type of this name has it
+  abbrev pub field_uses : List ℕ → FieldHead P → List (DeprecatedUse P)
+  field_uses ty h = option_map_or (defined_uses (judged t) ty h) (field_definition t ty h.name.it) []
+
+  abbrev pub own_uses : List ℕ → MeantSelection P → List (DeprecatedUse P)
+  own_uses ty (MeantField p d h v) = field_uses ty h
+  own_uses ty _ = []
+
+  -- of a selection, apart from those in its set
+  abbrev pub selection_uses : Member P → List (DeprecatedUse P)
+  selection_uses e = own_uses e.0 e.1 ++ directives_uses (judged t) (selection_directives e.1)
+
+  abbrev pub set_uses : MeantSet P → List (DeprecatedUse P)
+  set_uses v = flat_map selection_uses (members_in v)
+
   abbrev pub operation_uses : MeantOperation P → List (DeprecatedUse P)
-  operation_uses o = variables_uses o.variables ++ (directives_uses o.directives ++ set_uses o.set)
+  operation_uses o = variables_uses (judged t) o.variables ++ (directives_uses (judged t) o.directives ++ set_uses o.set)
 
   abbrev pub fragment_uses : MeantFragment P → List (DeprecatedUse P)
-  fragment_uses f = directives_uses f.directives ++ set_uses f.set
+  fragment_uses f = directives_uses (judged t) f.directives ++ set_uses f.set
 
   abbrev pub document_uses : MeantDocument P → List (DeprecatedUse P)
   document_uses d = flat_map operation_uses (operations d) ++ flat_map fragment_uses (fragments d)

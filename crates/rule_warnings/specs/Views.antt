@@ -8,7 +8,6 @@ use Rattle.schema_coordinates.specs.Coordinate.{printed}
 use Rattle.schema_coordinates.specs.CoordinateView.{schema_coordinate}
 use Rattle.schema_types.specs.SchemaTree.{SchemaTree}
 use Rattle.spec_document.specs.MeantTree.{MeantDocument}
-use Rattle.rule_definitions.specs.Judged.{judged}
 use Rattle.rule_definitions.specs.Room.{most_told}
 use Rattle.rule_warnings.specs.Deprecated.{DeprecatedUse, DeprecatedUsedIn}
 use Rattle.rule_warnings.specs.declared.deprecated_use.UseKind.{UseKind}
@@ -39,4 +38,4 @@ uses_of uses = map use_tree uses.items
 
 -- the first 1,000 of all uses of what is deprecated in the document under the schema
 abbrev pub TellsDeprecatedUses : SchemaTree Place → MeantDocument Place → Vec Rust Global → Type 0
-TellsDeprecatedUses s d uses = (all : List (DeprecatedUse Place)) × ((uses_of uses ≡ take most_told all) × ((u : DeprecatedUse Place) → Contains all u ↔ DeprecatedUsedIn (judged s) u d))
+TellsDeprecatedUses s d uses = (all : List (DeprecatedUse Place)) × ((uses_of uses ≡ take most_told all) × ((u : DeprecatedUse Place) → Contains all u ↔ DeprecatedUsedIn s u d))

@@ -16,13 +16,13 @@ use crate::selections::tell_set;
 use crate::values::tell_value;
 use document_typed_operations::{ExecutableDocument, Fragment, FragmentMap, Operation};
 use graphql_names::Node;
-use graphql_schema::Schema;
+use rule_values::IndexedSchema;
 use std::alloc::{AllocError, Global};
 use tree_operations::VariableDefinition;
 
 /// Adds the uses in the default value of a variable, if it has one.
 fn tell_default(
-    schema: &Schema,
+    schema: &IndexedSchema<'_>,
     variable: &VariableDefinition,
     uses: &mut Vec<DeprecatedUse>,
 ) -> Result<(), AllocError>
@@ -32,14 +32,14 @@ fn tell_default(
         None => Ok(()),
         Some(value) => {
             let ty = variable.ty.content().inner_named_type();
-            tell_value(schema, ty, value.content(), uses)
+            tell_value(schema.schema(), ty, value.content(), uses)
         }
     }
 }
 
 /// Adds the uses in the default value of a variable, and in its directives.
 fn tell_variable(
-    schema: &Schema,
+    schema: &IndexedSchema<'_>,
     variable: &Node<VariableDefinition>,
     uses: &mut Vec<DeprecatedUse>,
 ) -> Result<(), AllocError>
@@ -52,7 +52,7 @@ fn tell_variable(
 
 /// Adds the uses in the definitions of variables.
 fn tell_variables(
-    schema: &Schema,
+    schema: &IndexedSchema<'_>,
     variables: &[Node<VariableDefinition>],
     uses: &mut Vec<DeprecatedUse>,
 ) -> Result<(), AllocError>
@@ -66,11 +66,11 @@ fn tell_variables(
 
 /// Adds the uses in an operation.
 fn tell_operation(
-    schema: &Schema,
+    schema: &IndexedSchema<'_>,
     operation: &Node<Operation>,
     uses: &mut Vec<DeprecatedUse>,
 ) -> Result<(), AllocError>
-    ensures { OnOk result (Tells uses.old uses.new (operation_uses_of (judged (schema_tree schema.now)) operation.now)) }
+    ensures { OnOk result (Tells uses.old uses.new (operation_uses_of (schema_tree schema.now) operation.now)) }
 {
     let own = operation.content();
     tell_variables(schema, own.variables.as_slice(), uses)?;
@@ -80,11 +80,11 @@ fn tell_operation(
 
 /// Adds the uses in each operation.
 fn tell_operations(
-    schema: &Schema,
+    schema: &IndexedSchema<'_>,
     document: &ExecutableDocument,
     uses: &mut Vec<DeprecatedUse>,
 ) -> Result<(), AllocError>
-    ensures { OnOk result (Tells uses.old uses.new (flat_map (operation_uses (judged (schema_tree schema.now))) (operations (document_meant document.now)))) }
+    ensures { OnOk result (Tells uses.old uses.new (flat_map (operation_uses (schema_tree schema.now)) (operations (document_meant document.now)))) }
 {
     for operation in document.operations.iter() {
         tell_operation(schema, operation, uses)?;
@@ -94,11 +94,11 @@ fn tell_operations(
 
 /// Adds the uses in a fragment.
 fn tell_fragment(
-    schema: &Schema,
+    schema: &IndexedSchema<'_>,
     fragment: &Node<Fragment>,
     uses: &mut Vec<DeprecatedUse>,
 ) -> Result<(), AllocError>
-    ensures { OnOk result (Tells uses.old uses.new (fragment_uses_of (judged (schema_tree schema.now)) fragment.now)) }
+    ensures { OnOk result (Tells uses.old uses.new (fragment_uses_of (schema_tree schema.now) fragment.now)) }
 {
     let own = fragment.content();
     tell_directives(schema, own.directives.0.as_slice(), uses)?;
@@ -108,11 +108,11 @@ fn tell_fragment(
 /// Adds the uses in each fragment.
 #[tactic(auto, using(crate::proofs::Steps::room_steps))]
 fn tell_fragments(
-    schema: &Schema,
+    schema: &IndexedSchema<'_>,
     fragments: &FragmentMap,
     uses: &mut Vec<DeprecatedUse>,
 ) -> Result<(), AllocError>
-    ensures { OnOk result (Tells uses.old uses.new (fragments_uses_of (judged (schema_tree schema.now)) fragments.now)) }
+    ensures { OnOk result (Tells uses.old uses.new (fragments_uses_of (schema_tree schema.now) fragments.now)) }
 {
     for (_, fragment) in fragments {
         tell_fragment(schema, fragment, uses)?;
@@ -122,11 +122,11 @@ fn tell_fragments(
 
 /// Adds the uses in a document.
 fn tell_document(
-    schema: &Schema,
+    schema: &IndexedSchema<'_>,
     document: &ExecutableDocument,
     uses: &mut Vec<DeprecatedUse>,
 ) -> Result<(), AllocError>
-    ensures { OnOk result (Tells uses.old uses.new (document_uses (judged (schema_tree schema.now)) (document_meant document.now))) }
+    ensures { OnOk result (Tells uses.old uses.new (document_uses (schema_tree schema.now) (document_meant document.now))) }
 {
     tell_operations(schema, document, uses)?;
     tell_fragments(schema, &document.fragments, uses)
@@ -136,7 +136,7 @@ fn tell_document(
 /// fragments, whether or not one is spread, each once, in the order of the text. Fails if memory is refused.
 pub fn deprecated_uses(
     alloc: Global,
-    schema: &Schema,
+    schema: &IndexedSchema<'_>,
     document: &ExecutableDocument,
 ) -> Result<Vec<DeprecatedUse>, AllocError>
     ensures { IfOk result (λ uses. TellsDeprecatedUses (schema_tree schema.now) (document_meant document.now) uses) }

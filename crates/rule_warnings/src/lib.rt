@@ -4,6 +4,8 @@
 //! `specs/Deprecated.antt`: of fields that are selected, of arguments that are given to fields and directives, and at any depth of
 //! values of input fields and enum values. Each operation and each fragment is walked once.
 //!
+//! The schema is given as an `IndexedSchema`: with `SchemaInputs`, which are found once, a use of many arguments costs what it gives.
+//!
 //! Begin with `document.rt`, then `selections.rt`, `arguments.rt` and `values.rt`.
 #![tactic(auto)]
 

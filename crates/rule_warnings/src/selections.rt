@@ -3,7 +3,6 @@ ghost use Rattle.std.specs.Prelude.{◌≡◌, ◌++◌, flat_map, OnOk};
 ghost use Rattle.graphql_schema.specs.SchemaOf.{schema_tree};
 ghost use Rattle.document_typed_selections.specs.TypedTree.{typed_selection_tree, typed_set_tree};
 ghost use Rattle.spec_document.specs.MeantTree.{meant, meant_of_set};
-ghost use Rattle.rule_definitions.specs.Judged.{judged};
 ghost use Rattle.rule_warnings.specs.Told.{members_of, own_members, members_in, with_below, own_uses, selection_uses, set_uses};
 ghost use Rattle.rule_warnings.specs.Telling.{Tells, waiting_members, field_uses_of, selection_uses_of};
 
@@ -13,40 +12,41 @@ use crate::owner::Owner;
 use crate::tell::tell_use;
 use document_typed_selections::{Field, Selection, SelectionSet};
 use graphql_names::Name;
-use graphql_schema::Schema;
+use rule_values::IndexedSchema;
 use std::alloc::AllocError;
 use tree_literals::NamedType;
 
-/// Adds the use of a field that is selected on the type `parent`, and the uses in its arguments.
+/// Adds the use of a field that is selected on the type `parent`, and the uses in its arguments. Of one that the type does not have
+/// there are none.
 fn tell_field(
-    schema: &Schema,
+    schema: &IndexedSchema<'_>,
     parent: &Name,
     field: &Field,
     uses: &mut Vec<DeprecatedUse>,
 ) -> Result<(), AllocError>
-    ensures { OnOk result (Tells uses.old uses.new (field_uses_of (judged (schema_tree schema.now)) parent.now field.now)) }
+    ensures { OnOk result (Tells uses.old uses.new (field_uses_of (schema_tree schema.now) parent.now field.now)) }
 {
-    let defined = field.definition.content();
-    tell_use(
-        Owner::OfField(parent),
-        &field.name,
-        &defined.directives,
-        uses,
-    )?;
-    let definitions = defined.arguments.as_slice();
-    let given = field.arguments.as_slice();
-    let owner = Owner::OfFieldArgument(parent, &field.name);
-    tell_given(schema, owner, definitions, given, uses)
+    let name = &field.name;
+    match schema.schema().type_field(parent, name) {
+        Err(_) => Ok(()),
+        Ok(definition) => {
+            let directives = &definition.node.content().directives;
+            tell_use(Owner::OfField(parent), name, directives, uses)?;
+            let defined = schema.arguments_of_field(parent, name, definition);
+            let owner = Owner::OfFieldArgument(parent, name);
+            tell_given(schema, owner, &defined, field.arguments.as_slice(), uses)
+        }
+    }
 }
 
 /// Adds the uses of a selection on the type `parent`, if it is a field, apart from those in its directives and its set.
 fn tell_own(
-    schema: &Schema,
+    schema: &IndexedSchema<'_>,
     parent: &NamedType,
     selection: &Selection,
     uses: &mut Vec<DeprecatedUse>,
 ) -> Result<(), AllocError>
-    ensures { OnOk result (Tells uses.old uses.new (own_uses (judged (schema_tree schema.now)) parent.now.text (meant (typed_selection_tree selection.now)))) }
+    ensures { OnOk result (Tells uses.old uses.new (own_uses (schema_tree schema.now) parent.now.text (meant (typed_selection_tree selection.now)))) }
 {
     match selection.as_field() {
         None => Ok(()),
@@ -56,12 +56,12 @@ fn tell_own(
 
 /// Adds the uses of a selection on the type `parent`, apart from those in its set.
 fn tell_selection(
-    schema: &Schema,
+    schema: &IndexedSchema<'_>,
     parent: &NamedType,
     selection: &Selection,
     uses: &mut Vec<DeprecatedUse>,
 ) -> Result<(), AllocError>
-    ensures { OnOk result (Tells uses.old uses.new (selection_uses_of (judged (schema_tree schema.now)) parent.now selection.now)) }
+    ensures { OnOk result (Tells uses.old uses.new (selection_uses_of (schema_tree schema.now) parent.now selection.now)) }
 {
     tell_own(schema, parent, selection, uses)?;
     tell_directives(schema, selection.directives().0.as_slice(), uses)
@@ -98,11 +98,11 @@ fn push_own_members<'doc>(
 /// Adds the uses of the selections that wait, and of those at any depth in them. There is no recursion, so the stack does not
 /// grow with the depth.
 fn tell_waiting<'doc>(
-    schema: &Schema,
+    schema: &IndexedSchema<'_>,
     waiting: &mut Vec<(&'doc NamedType, &'doc Selection)>,
     uses: &mut Vec<DeprecatedUse>,
 ) -> Result<(), AllocError>
-    ensures { OnOk result (Tells uses.old uses.new (flat_map (selection_uses (judged (schema_tree schema.now))) (flat_map with_below (waiting_members waiting.old.items)))) }
+    ensures { OnOk result (Tells uses.old uses.new (flat_map (selection_uses (schema_tree schema.now)) (flat_map with_below (waiting_members waiting.old.items)))) }
 {
     while let Some((parent, selection)) = waiting.pop() {
         tell_selection(schema, parent, selection, uses)?;
@@ -114,12 +114,12 @@ fn tell_waiting<'doc>(
 /// Adds the uses of the selections of a set, at any depth, and of those that wait.
 // It owns the list, so that its lifetime is that of the set: the borrow checker does not find it where the list is made.
 fn tell_set_and<'doc>(
-    schema: &Schema,
+    schema: &IndexedSchema<'_>,
     set: &'doc SelectionSet,
     mut waiting: Vec<(&'doc NamedType, &'doc Selection)>,
     uses: &mut Vec<DeprecatedUse>,
 ) -> Result<(), AllocError>
-    ensures { OnOk result (Tells uses.old uses.new (flat_map (selection_uses (judged (schema_tree schema.now))) (members_in (meant_of_set (typed_set_tree set.now)) ++ flat_map with_below (waiting_members waiting.entry.items)))) }
+    ensures { OnOk result (Tells uses.old uses.new (flat_map (selection_uses (schema_tree schema.now)) (members_in (meant_of_set (typed_set_tree set.now)) ++ flat_map with_below (waiting_members waiting.entry.items)))) }
 {
     push_members(set, &mut waiting)?;
     tell_waiting(schema, &mut waiting, uses)
@@ -127,11 +127,11 @@ fn tell_set_and<'doc>(
 
 /// Adds the uses of the selections of a set, at any depth.
 pub(crate) fn tell_set(
-    schema: &Schema,
+    schema: &IndexedSchema<'_>,
     set: &SelectionSet,
     uses: &mut Vec<DeprecatedUse>,
 ) -> Result<(), AllocError>
-    ensures { OnOk result (Tells uses.old uses.new (set_uses (judged (schema_tree schema.now)) (meant_of_set (typed_set_tree set.now)))) }
+    ensures { OnOk result (Tells uses.old uses.new (set_uses (schema_tree schema.now) (meant_of_set (typed_set_tree set.now)))) }
 {
     let waiting = Vec::new(*uses.allocator());
     tell_set_and(schema, set, waiting, uses)

@@ -1,4 +1,4 @@
-"""The forms in which findings are told: those of `graphql-report`, and SARIF."""
+"""The forms in which findings are told: those of `graphql-report`."""
 
 import json
 import os

@@ -2,9 +2,9 @@ use Rattle.std.proofs.Common.{◌≡◌, ◌∙◌, ◌++◌, List, [], ap, sym,
 use Rattle.std.specs.Option.{option_map, option_map_or}
 use Rattle.std.proofs.lemmas.Result.{on_ok_weaker}
 use Rattle.graphql_names.specs.Node.{content}
-use Rattle.graphql_names.specs.Placed.{Placed, Place, name_tree}
+use Rattle.graphql_names.specs.Placed.{Placed, Place, name_tree, node_tree, unplaced_node}
 use Rattle.tree_literals.specs.ValueTree.{value_tree}
-use Rattle.tree_directives.specs.DirectiveTree.{InputValueTree, input_value_tree, directives_tree, unplaced_input_value, unplaced_directives}
+use Rattle.tree_directives.specs.DirectiveTree.{InputValueTree, input_value_tree, input_value_trees, directives_tree, unplaced_input_value, unplaced_directives}
 use Rattle.tree_directives.specs.DirectiveQueries.{input_value_has_name}
 use Rattle.tree_directives.specs.declared.directive.Argument.{Argument}
 use Rattle.tree_directives.specs.declared.input_value.InputValueDefinition.{InputValueDefinition}
@@ -15,8 +15,9 @@ use Rattle.rule_definitions.specs.Room.{◌⊕◌}
 use Rattle.rule_warnings.specs.Deprecated.{DeprecatedUse, deprecation}
 use Rattle.rule_warnings.specs.Views.{uses_of}
 use Rattle.rule_warnings.specs.Told.{value_uses}
-use Rattle.rule_warnings.specs.Telling.{use_by, plain_definition, plain_definitions}
+use Rattle.rule_warnings.specs.Telling.{use_by, plain_definitions}
 use Rattle.rule_warnings.specs.declared.owner.Owner.{Owner}
+use Rattle.rule_warnings.proofs.Deprecations.{plain_found}
 use Rattle.rule_warnings.proofs.Found.{nothing_told, found_told, both_told}
 use Rattle.rule_warnings.proofs.arguments.tell_argument.Goals as goal
 
@@ -32,7 +33,8 @@ returns-in_default c =
     let a = c.content-given.result.now in
     subst (λ (x : Argument). old ≡ old ⊕ option_map_or (by_definition s c.args.owner x) (find (input_value_has_name x.name.text) defs) []) c.content-given.ensures
     (nothing_told (by_definition s c.args.owner a) old (find (input_value_has_name a.name.text) defs)
-    (sym c.argument_definition.ensures ∙ ap (option_map (λ v. plain_definition v.now)) c.in_default.is))
+    (plain_found a.name.text (input_value_trees c.args.definitions.now)
+    ∙ ap (option_map (unplaced_node unplaced_input_value)) (sym c.find.ensures ∙ ap (option_map (λ v. node_tree input_value_tree v.now)) c.in_default.is)))
 
 pub returns : goal.returns
 returns c =
@@ -43,9 +45,10 @@ returns c =
     let a = c.content-given.result.now in
     on_ok_weaker c.tell_value.result
     (λ told. subst (λ (x : Argument). new ≡ old ⊕ option_map_or (by_definition s c.args.owner x) (find (input_value_has_name x.name.text) defs) []) c.content-given.ensures
-    (found_told (by_definition s c.args.owner a) old (find (input_value_has_name a.name.text) defs) (plain_definition c.in-Some.definition.now) new
-    (sym c.argument_definition.ensures ∙ ap (option_map (λ v. plain_definition v.now)) c.in-Some.is)
+    (found_told (by_definition s c.args.owner a) old (find (input_value_has_name a.name.text) defs) (unplaced_node unplaced_input_value (node_tree input_value_tree c.in-Some.definition.now)) new
+    (plain_found a.name.text (input_value_trees c.args.definitions.now)
+    ∙ ap (option_map (unplaced_node unplaced_input_value)) (sym c.find.ensures ∙ ap (option_map (λ v. node_tree input_value_tree v.now)) c.in-Some.is))
     (both_told old (uses_of c.tell_use.new.uses) new _ _ _ _ c.in_ok-tell_use.ensures told
     (ap (λ (d : InputValueDefinition). use_by c.args.owner (deprecation (unplaced_directives (directives_tree d.directives))) (name_tree a.name)) c.content-defined.ensures)
-    (λ i. value_uses s ((c.inner_type.ensures ∙ ap (λ (d : InputValueDefinition). named_in (unplaced_input_value (input_value_tree d)).ty.it) c.content-defined.ensures) i) (value_tree (c.content.ensures i))))))
+    (λ i. value_uses (judged (schema_tree (c.schema.ensures i))) ((c.inner_type-ty.ensures ∙ ap (λ (d : InputValueDefinition). named_in (unplaced_input_value (input_value_tree d)).ty.it) c.content-defined.ensures) i) (value_tree (c.content.ensures i))))))
     c.tell_value.ensures

@@ -32,5 +32,5 @@ returns-in-Some c =
     on_ok_weaker c.tell_value.result
     (λ told. found_told (λ (x : Placed Place (ValueTree Place)). value_uses s ty x.it) old (option_map (node_tree value_tree) v.default_value) (node_tree value_tree c.in-Some.value) _
     (ap (option_map (node_tree value_tree)) c.in-Some.is)
-    (told ∙ (λ i. old ⊕ value_uses s (named i) (value_tree (c.content-in-Some.ensures i)))))
+    (told ∙ (λ i. old ⊕ value_uses (judged (schema_tree (c.schema.ensures i))) (named i) (value_tree (c.content-in-Some.ensures i)))))
     c.tell_value.ensures

@@ -16,10 +16,10 @@ use Rattle.rule_warnings.proofs.document.tell_fragment.Goals as goal
 
 pub returns : goal.returns
 returns c =
-    let s = judged (schema_tree c.args.schema.now) in
+    let s = schema_tree c.args.schema.now in
     on_ok_weaker c.tell_set.result
     (λ told. both_told (uses_of c.args.uses.now) (uses_of c.tell_directives.new.uses) (uses_of c.tell_set.new.uses) _ _ _ _ c.in_ok-tell_directives.ensures told
-    (ap (λ (l : List (Node Directive)). directives_uses s (map (node_tree directive_tree) l)) c.as_slice.ensures.value
-    ∙ ap (λ (f : Fragment). directives_uses s (directives_tree f.directives)) c.content-own.ensures)
+    (ap (λ (l : List (Node Directive)). directives_uses (judged s) (map (node_tree directive_tree) l)) c.as_slice.ensures.value
+    ∙ ap (λ (f : Fragment). directives_uses (judged s) (directives_tree f.directives)) c.content-own.ensures)
     (ap (λ (f : Fragment). set_uses s (meant_of_set (typed_set_tree f.selection_set))) c.content-own.ensures))
     c.tell_set.ensures

@@ -18,15 +18,15 @@ use Rattle.rule_warnings.proofs.document.tell_operation.Goals as goal
 
 pub returns : goal.returns
 returns c =
-    let s = judged (schema_tree c.args.schema.now) in
+    let s = schema_tree c.args.schema.now in
     let one = uses_of c.tell_variables.new.uses in
     let new = uses_of c.tell_set.new.uses in
     on_ok_weaker c.tell_set.result
     (λ told. both_told (uses_of c.args.uses.now) one new _ _ _ _ c.in_ok-tell_variables.ensures
     (both_told one (uses_of c.tell_directives.new.uses) new _ _ _ _ c.in_ok-tell_directives.ensures told
-    (ap (λ (l : List (Node Directive)). directives_uses s (map (node_tree directive_tree) l)) c.as_slice-2.ensures.value
-    ∙ ap (λ (o : Operation). directives_uses s (directives_tree o.directives)) c.content-own.ensures)
+    (ap (λ (l : List (Node Directive)). directives_uses (judged s) (map (node_tree directive_tree) l)) c.as_slice-2.ensures.value
+    ∙ ap (λ (o : Operation). directives_uses (judged s) (directives_tree o.directives)) c.content-own.ensures)
     (ap (λ (o : Operation). set_uses s (meant_of_set (typed_set_tree o.selection_set))) c.content-own.ensures))
-    (ap (λ (l : List (Node VariableDefinition)). variables_uses s (defined_variables l)) (c.as_slice.ensures.value ∙ ap (λ (o : Operation). o.variables.items) c.content-own.ensures))
+    (ap (λ (l : List (Node VariableDefinition)). variables_uses (judged s) (defined_variables l)) (c.as_slice.ensures.value ∙ ap (λ (o : Operation). o.variables.items) c.content-own.ensures))
     refl)
     c.tell_set.ensures

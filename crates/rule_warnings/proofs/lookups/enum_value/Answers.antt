@@ -17,6 +17,6 @@ returns-in-Some c =
     let s = schema_tree c.args.schema.now in
     let t = extended_type c.in-Some.found.now in
     let there : type_at s c.args.ty.now.text ≡ Some t = sym c.type_named.ensures ∙ ap (option_map (λ t. extended_type t.now)) c.in-Some.is in
-    sym (mapped_again (λ v. component_tree enum_value_tree v.now) (plain_given unplaced_enum_value) (λ v. plain_given unplaced_enum_value (component_tree enum_value_tree v.now)) c.value_of.result (λ v. refl))
-    ∙ ap (option_map (plain_given unplaced_enum_value)) c.value_of.ensures
+    sym (mapped_again (λ v. component_tree enum_value_tree v.now) (plain_given unplaced_enum_value) (λ v. plain_given unplaced_enum_value (component_tree enum_value_tree v.now)) c.find_value.result (λ v. refl))
+    ∙ ap (option_map (plain_given unplaced_enum_value)) c.find_value.ensures
     ∙ sym (value_there s c.args.ty.now.text c.args.name.now.text t there)

@@ -17,6 +17,6 @@ returns-in-Some c =
     let s = schema_tree c.args.schema.now in
     let t = extended_type c.in-Some.found.now in
     let there : type_at s c.args.ty.now.text ≡ Some t = sym c.type_named.ensures ∙ ap (option_map (λ t. extended_type t.now)) c.in-Some.is in
-    sym (mapped_again (λ v. component_tree input_value_tree v.now) (plain_given unplaced_input_value) (λ v. plain_given unplaced_input_value (component_tree input_value_tree v.now)) c.field_of.result (λ v. refl))
-    ∙ ap (option_map (plain_given unplaced_input_value)) c.field_of.ensures
+    sym (mapped_again (λ v. component_tree input_value_tree v.now) (plain_given unplaced_input_value) (λ v. plain_given unplaced_input_value (component_tree input_value_tree v.now)) c.find_input.result (λ v. refl))
+    ∙ ap (option_map (plain_given unplaced_input_value)) c.find_input.ensures
     ∙ sym (input_there s c.args.ty.now.text c.args.name.now.text t there)

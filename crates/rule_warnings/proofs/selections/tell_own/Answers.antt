@@ -5,7 +5,6 @@ use Rattle.document_typed_selections.specs.TypedTree.{typed_selection_tree}
 use Rattle.document_typed_selections.specs.TypedParts.{typed_field_node}
 use Rattle.document_typed_selections.specs.declared.selection.Field.{Field}
 use Rattle.graphql_schema.specs.SchemaOf.{schema_tree}
-use Rattle.rule_definitions.specs.Judged.{judged}
 use Rattle.rule_definitions.specs.Room.{◌⊕◌}
 use Rattle.rule_warnings.specs.Views.{uses_of}
 use Rattle.rule_warnings.specs.Telling.{field_uses_of}
@@ -14,14 +13,14 @@ use Rattle.rule_warnings.proofs.selections.tell_own.Goals as goal
 
 pub returns-in-None : goal.returns-in-None
 returns-in-None c =
-    let s = judged (schema_tree c.args.schema.now) in
+    let s = schema_tree c.args.schema.now in
     let ty = c.args.parent.now.text in
     ap (λ l. uses_of c.args.uses.now ⊕ l)
     (ap (if_field s ty) (ap (λ o. option_map typed_field_node (option_copied o)) (sym c.in-None.is) ∙ c.as_field.ensures) ∙ if_field_is s ty (typed_selection_tree c.args.selection.now))
 
 pub returns-in-Some : goal.returns-in-Some
 returns-in-Some c =
-    let s = judged (schema_tree c.args.schema.now) in
+    let s = schema_tree c.args.schema.now in
     let ty = c.args.parent.now.text in
     let old = uses_of c.args.uses.now in
     on_ok_weaker c.tell_field.result

@@ -16,10 +16,10 @@ use Rattle.rule_warnings.proofs.selections.tell_selection.Goals as goal
 
 pub returns : goal.returns
 returns c =
-    let s = judged (schema_tree c.args.schema.now) in
+    let s = schema_tree c.args.schema.now in
     let own = own_uses s c.args.parent.now.text (meant (typed_selection_tree c.args.selection.now)) in
     on_ok_weaker c.tell_directives.result
     (λ told. both_told (uses_of c.args.uses.now) (uses_of c.tell_own.new.uses) (uses_of c.tell_directives.new.uses) own _ own _ c.in_ok-tell_own.ensures told refl
-    (ap (λ (l : List (Node Directive)). directives_uses s (map (node_tree directive_tree) l)) c.as_slice.ensures.value
-    ∙ ap (directives_uses s) (c.directives.ensures ∙ directives_meant (typed_selection_tree c.args.selection.now))))
+    (ap (λ (l : List (Node Directive)). directives_uses (judged s) (map (node_tree directive_tree) l)) c.as_slice.ensures.value
+    ∙ ap (directives_uses (judged s)) (c.directives.ensures ∙ directives_meant (typed_selection_tree c.args.selection.now))))
     c.tell_directives.ensures

@@ -7,7 +7,6 @@ use Rattle.document_typed_selections.specs.TypedTree.{typed_set_tree}
 use Rattle.document_typed_selections.specs.declared.selection.Selection.{Selection}
 use Rattle.graphql_schema.specs.SchemaOf.{schema_tree}
 use Rattle.spec_document.specs.MeantTree.{meant_of_set}
-use Rattle.rule_definitions.specs.Judged.{judged}
 use Rattle.rule_definitions.specs.Room.{◌⊕◌}
 use Rattle.rule_warnings.specs.Views.{uses_of}
 use Rattle.rule_warnings.specs.Told.{members_in, with_below, selection_uses}
@@ -16,7 +15,7 @@ use Rattle.rule_warnings.proofs.selections.tell_set.Goals as goal
 
 pub returns : goal.returns
 returns c =
-    let s = judged (schema_tree c.args.schema.now) in
+    let s = schema_tree c.args.schema.now in
     let all = members_in (meant_of_set (typed_set_tree c.args.set.now)) in
     let old = uses_of c.args.uses.now in
     on_ok_weaker c.tell_set_and.result

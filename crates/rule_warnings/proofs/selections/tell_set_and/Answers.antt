@@ -5,7 +5,6 @@ use Rattle.std.proofs.lemmas.Result.{on_ok_weaker}
 use Rattle.document_typed_selections.specs.TypedTree.{typed_set_tree}
 use Rattle.graphql_schema.specs.SchemaOf.{schema_tree}
 use Rattle.spec_document.specs.MeantTree.{meant_of_set}
-use Rattle.rule_definitions.specs.Judged.{judged}
 use Rattle.rule_definitions.specs.Room.{◌⊕◌}
 use Rattle.rule_warnings.specs.Views.{uses_of}
 use Rattle.rule_warnings.specs.Told.{members_of, with_below, selection_uses}
@@ -15,7 +14,7 @@ use Rattle.rule_warnings.proofs.selections.tell_set_and.Goals as goal
 
 pub returns : goal.returns
 returns c =
-    let s = judged (schema_tree c.args.schema.now) in
+    let s = schema_tree c.args.schema.now in
     let v = meant_of_set (typed_set_tree c.args.set.now) in
     let old = waiting_members c.args.waiting.items in
     let all = ap (flat_map with_below) c.in_ok-push_members.ensures ∙ flat_map-append with_below (members_of v) old ∙ ap (λ l. l ++ flat_map with_below old) (all_flat v) in

@@ -6,7 +6,6 @@ use Rattle.std.proofs.lemmas.List.{nil_from_length}
 use Rattle.graphql_names.specs.NameValue.{NameValue}
 use Rattle.document_typed_selections.specs.declared.selection.Selection.{Selection}
 use Rattle.graphql_schema.specs.SchemaOf.{schema_tree}
-use Rattle.rule_definitions.specs.Judged.{judged}
 use Rattle.rule_definitions.specs.Room.{◌⊕◌}
 use Rattle.rule_definitions.proofs.Room.{room_both}
 use Rattle.rule_warnings.specs.Views.{uses_of}
@@ -17,7 +16,7 @@ use Rattle.rule_warnings.proofs.selections.tell_waiting.Goals as goal
 
 pub loop-parent-preserved : goal.loop-parent-preserved
 loop-parent-preserved c =
-    let s = judged (schema_tree c.args.schema.now) in
+    let s = schema_tree c.args.schema.now in
     let e : Bor NameValue × Bor Selection = (c.in-Some.parent, c.in-Some.selection) in
     let was : c.loop-parent.waiting.items ≡ c.pop.new.self.items ++ e ∷ [] = c.pop.ensures.items ∙ ap (λ o. c.pop.new.self.items ++ option_to_list o) c.in-Some.is in
     let rest = flat_map with_below (waiting_members c.push_own_members.new.waiting.items) in
@@ -35,6 +34,6 @@ loop-parent-smaller c =
 
 pub returns : goal.returns
 returns c =
-    let s = judged (schema_tree c.args.schema.now) in
+    let s = schema_tree c.args.schema.now in
     let none : c.loop-parent.waiting.items ≡ [] = nil_from_length c.loop-parent.waiting.items (omega (arith, c.in_default.ensures.cases.0)) in
     ap (λ (l : List (Bor NameValue × Bor Selection)). uses_of c.loop-parent.uses ⊕ flat_map (selection_uses s) (flat_map with_below (waiting_members l))) (sym none) ∙ c.loop-parent.invariant

@@ -1,8 +1,13 @@
-use Rattle.std.proofs.Common.{◌∙◌}
+use Rattle.std.proofs.Common.{◌∙◌, List, map, ap}
 use Rattle.std.specs.Str.{chars}
+use Rattle.rule_definitions.specs.Room.{◌⊕◌}
 use Rattle.rule_definitions.proofs.Room.{room_first}
-use Rattle.strict_values.specs.Characters.{character_departures}
+use Rattle.strict_values.specs.Characters.{character_departures, stretched}
+use Rattle.strict_values.specs.Views.{departure_tree}
+use Rattle.strict_values.specs.declared.departure.Departure.{Departure}
 use Rattle.strict_values.proofs.characters.source_characters.Goals as goal
 
 pub returns : goal.returns
-returns c = c.in_ok-tell_characters.ensures ∙ room_first (character_departures c.args.file.0 0 (chars c.args.text.now))
+returns c =
+    let own = character_departures c.args.file.0 0 (chars c.args.text.now) in
+    c.in_ok-tell_characters.ensures ∙ ap (λ (ds : List Departure). map stretched (map departure_tree ds) ⊕ own) c.new-departures.ensures.items ∙ room_first own
