@@ -3,10 +3,11 @@ use Rattle.std.proofs.Common.{◌≡◌, ℕ, ◌+◌, ◌<◌, List, [], ◌∷
 use Rattle.std.specs.List.{list_any}
 use Rattle.std.proofs.lemmas.List.{map-append, map_more}
 use Rattle.graphql_names.specs.Placed.{Place}
-use Rattle.strict_values.specs.Departure.{Departure}
-use Rattle.strict_values.specs.Views.{departure_tree}
-use Rattle.strict_values.specs.declared.departure.Departure.{Departure as Rust}
-use Rattle.graphql_report.specs.Alike.{is_alike, once_after, each_once}
+use Rattle.strict_documents.specs.Departure.{Departure}
+use Rattle.strict_documents.specs.DepartureViews.{departure_tree}
+use Rattle.strict_documents.specs.declared.departure.Departure.{Departure as Rust}
+use Rattle.schema_types.proofs.in_components.Places.{each_place-push}
+use Rattle.graphql_report.specs.Alike.{is_alike, each_once}
 use Rattle.graphql_report.specs.Warnings.{About, about_departure}
 use Rattle.graphql_report.specs.WarningViews.{told_at}
 use Rattle.graphql_report.specs.declared.warnings.Warning.{Warning}
@@ -15,21 +16,13 @@ use Rattle.graphql_report.specs.declared.warnings.Warning.{Warning}
 abbrev pub if_new : List (Departure Place) → Departure Place → List (Departure Place)
 if_new before x = if list_any (is_alike x) before then [] else x ∷ []
 
-once_more : (before xs : List (Departure Place)) (x : Departure Place) → once_after before (xs ++ x ∷ []) ≡ once_after before xs ++ if_new (before ++ xs) x
-once_more before [] x = append-nil (if_new before x) ∙ ap (λ l. if_new l x) (sym (append-nil before))
-once_more before (y ∷ xs) x =
-    let own = if_new before y in
-    let later = once_after (before ++ y ∷ []) xs in
-    ap (λ l. own ++ l) (once_more (before ++ y ∷ []) xs x) ∙ sym (append_assoc own later (if_new ((before ++ y ∷ []) ++ xs) x))
-    ∙ ap (λ l. (own ++ later) ++ if_new l x) (append_assoc before (y ∷ []) xs)
-
 -- what is told of one more of a list
 pub each_more : {X : Type 0} (tree : X → Departure Place) (xs : List X) (k : ℕ) (d : X) → k < length xs
     → map about_departure (each_once (map tree (take (k + 1) xs)))
     ≡ map about_departure (each_once (map tree (take k xs))) ++ map about_departure (if_new (map tree (take k xs)) (tree (get_or xs k d)))
 each_more tree xs k d less =
     ap (λ l. map about_departure (each_once l)) (map_more tree xs k d less)
-    ∙ ap (map about_departure) (once_more [] (map tree (take k xs)) (tree (get_or xs k d)))
+    ∙ ap (map about_departure) (each_place-push if_new (map tree (take k xs)) (tree (get_or xs k d)))
     ∙ map-append about_departure (each_once (map tree (take k xs))) (if_new (map tree (take k xs)) (tree (get_or xs k d)))
 
 new_one : (before : List (Departure Place)) (x : Departure Place) (b : Bool) → list_any (is_alike x) before ≡ b → if_new before x ≡ (if b then [] else x ∷ [])

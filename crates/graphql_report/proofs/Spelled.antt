@@ -6,8 +6,8 @@ use Rattle.graphql_names.specs.Placed.{Place}
 use Rattle.report_forms.specs.declared.source.Source.{Source}
 use Rattle.fault_data.specs.in_rule_definitions.Room.{◌⊕◌}
 use Rattle.fault_data.proofs.in_rule_definitions.Room.{room_both}
-use Rattle.strict_values.specs.Departure.{Departure}
-use Rattle.strict_values.specs.Characters.{Stretch, character_departures}
+use Rattle.strict_documents.specs.Departure.{Departure}
+use Rattle.strict_documents.specs.Characters.{Stretch, character_departures}
 use Rattle.graphql_report.specs.Warnings.{texts_departures}
 
 texts_more : (n : ℕ) (xs : List Source) (s : Source) → texts_departures n (xs ++ s ∷ []) ≡ texts_departures n xs ++ character_departures (n + length xs) 0 (chars s.lines.now)

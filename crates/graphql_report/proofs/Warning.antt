@@ -9,9 +9,9 @@ use Rattle.graphql_faults.specs.DetailsTree.{DetailsAt}
 use Rattle.graphql_faults.specs.DetailsView.{diagnostics_of}
 use Rattle.rule_warnings.specs.Deprecated.{DeprecatedUse}
 use Rattle.rule_warnings.specs.Views.{uses_of}
-use Rattle.strict_values.specs.Departure.{Departure}
-use Rattle.strict_values.specs.Views.{departures_of}
-use Rattle.strict_values.specs.Characters.{TellsCharacters}
+use Rattle.strict_documents.specs.Departure.{Departure}
+use Rattle.strict_documents.specs.DepartureViews.{departures_of}
+use Rattle.strict_documents.specs.Characters.{TellsCharacters}
 use Rattle.strict_schemas.specs.Departing.{departures_of_schema}
 use Rattle.report_forms.specs.Order.{IsOrder}
 use Rattle.report_forms.specs.declared.entry.Entry.{Entry}

@@ -7,8 +7,8 @@ use Rattle.spec_document.specs.MeantTree.{MeantDocument}
 use Rattle.fault_data.specs.in_rule_definitions.Room.{most_told}
 use Rattle.graphql_faults.specs.DetailsView.{details_of, diagnostics_of}
 use Rattle.rule_warnings.specs.Views.{use_tree, uses_of, TellsDeprecatedUses}
-use Rattle.strict_values.specs.Views.{departure_tree, departures_of}
-use Rattle.strict_values.specs.Characters.{TellsCharacters}
+use Rattle.strict_documents.specs.DepartureViews.{departure_tree, departures_of}
+use Rattle.strict_documents.specs.Characters.{TellsCharacters}
 use Rattle.strict_documents.specs.Views.{TellsDepartures}
 use Rattle.strict_schemas.specs.Departing.{departures_of_schema}
 use Rattle.report_forms.specs.declared.source.Source.{Source}

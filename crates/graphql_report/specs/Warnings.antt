@@ -14,10 +14,10 @@ use Rattle.graphql_faults.specs.DetailsMessages.{details_message}
 use Rattle.rule_warnings.specs.Deprecated.{DeprecatedUse}
 use Rattle.rule_warnings.specs.Views.{warning_name, warning_text, uses_of, TellsDeprecatedUses}
 use Rattle.rule_warnings.specs.declared.deprecated_use.DeprecatedUse.{DeprecatedUse as RustUse}
-use Rattle.strict_values.specs.Departure.{Departure}
-use Rattle.strict_values.specs.Views.{departure_name, departure_text, departures_of}
-use Rattle.strict_values.specs.Characters.{Stretch, character_departures, stretches_of, TellsCharacters}
-use Rattle.strict_values.specs.declared.departure.Departure.{Departure as RustDeparture}
+use Rattle.strict_documents.specs.Departure.{Departure}
+use Rattle.strict_documents.specs.DepartureViews.{departure_name, departure_text, departures_of}
+use Rattle.strict_documents.specs.Characters.{Stretch, character_departures, stretches_of, TellsCharacters}
+use Rattle.strict_documents.specs.declared.departure.Departure.{Departure as RustDeparture}
 use Rattle.strict_documents.specs.Views.{TellsDepartures}
 use Rattle.strict_schemas.specs.Departing.{departures_of_schema}
 use Rattle.strict_schemas.specs.Faults.{StrictBreaks}

@@ -2,11 +2,11 @@
 
 ghost use Rattle.std.specs.Prelude.{◌≡◌, map};
 ghost use Rattle.std.specs.List.{list_any};
-ghost use Rattle.strict_values.specs.Views.{departure_tree};
+ghost use Rattle.strict_documents.specs.DepartureViews.{departure_tree};
 ghost use Rattle.graphql_report.specs.Alike.{is_at_one_place, is_alike};
 
 use graphql_names::SourceSpan;
-use strict_values::Departure;
+use strict_documents::Departure;
 
 /// Whether both are one place, or there is none.
 fn is_at_one_place(one: Option<SourceSpan>, other: Option<SourceSpan>) -> bool

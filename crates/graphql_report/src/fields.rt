@@ -9,7 +9,7 @@ use rule_warnings::DeprecatedUse;
 use schema_fold::BuildError as FoldingError;
 use std::alloc::{AllocError, Global};
 use std::fmt::Display;
-use strict_values::Departure;
+use strict_documents::Departure;
 
 /// Each name and each type of the fault's data, in their order.
 pub(crate) fn fields_of(alloc: Global, details: &Details) -> Result<Vec<Field>, AllocError> {

@@ -5,7 +5,7 @@ ghost use Rattle.graphql_schema.specs.SchemaOf.{schema_tree};
 ghost use Rattle.graphql_faults.specs.DetailsView.{details_at, diagnostics_of};
 ghost use Rattle.document_typed_operations.specs.DocumentView.{document_meant};
 ghost use Rattle.rule_warnings.specs.Views.{use_tree};
-ghost use Rattle.strict_values.specs.Views.{departure_tree};
+ghost use Rattle.strict_documents.specs.DepartureViews.{departure_tree};
 ghost use Rattle.report_forms.specs.Order.{IsOrder};
 ghost use Rattle.graphql_report.specs.Alike.{each_once};
 ghost use Rattle.graphql_report.specs.Reports.{AreRanked};
@@ -22,9 +22,10 @@ use graphql_names::{FileId, SourceSpan};
 use report_forms::{Entry, Field, Lines, Rank, Related, Severity, Source, order_of, related};
 use rule_warnings::{DeprecatedUse, deprecated_uses};
 use std::alloc::{AllocError, Global};
-use strict_documents::{StrictSchema, document_departures};
+use strict_documents::{
+    Departure, StrictSchema, document_departures, source_characters, tell_characters,
+};
 use strict_schemas::{default_faults, schema_departures};
-use strict_values::{Departure, source_characters, tell_characters};
 
 /// What a warning is about.
 #[derive(Clone, Copy)]

@@ -113,6 +113,6 @@ fn push_end(is_over: bool, lines: &mut Lines) {
     lines.put(if is_over {
         "  end\n"
     } else {
-        "  and something following the end\n"
+        "  and something after the end\n"
     });
 }

@@ -31,8 +31,8 @@ use Rattle.rule_document_definitions.specs.Selected.{Position, InOperation, InFr
 use Rattle.rule_document_definitions.specs.Reached.{Closed, first, next, InFragmentOf}
 use Rattle.rule_reach.specs.Reach.{meant_fragments}
 use Rattle.rule_reach.proofs.MeantStandings.{StandsFor, standing_at, from_standing, to_standing}
-use Rattle.strict_values.specs.Views.{departures_of}
-use Rattle.strict_values.specs.declared.departure.Departure.{Departure as Rust}
+use Rattle.strict_documents.specs.DepartureViews.{departures_of}
+use Rattle.strict_documents.specs.declared.departure.Departure.{Departure as Rust}
 use Rattle.strict_documents.specs.Applying.{root_departures}
 use Rattle.strict_documents.specs.DepartsIn.{set_type, DepartsAtRoot}
 use Rattle.strict_documents.specs.Telling.{TellsRoots, AddsDepartures, roots_departures}

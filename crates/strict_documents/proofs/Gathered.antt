@@ -11,8 +11,8 @@ use Rattle.rule_definitions.specs.Room.{◌⊕◌}
 use Rattle.rule_document_definitions.specs.Selected.{own}
 use Rattle.rule_reach.specs.Reach.{Member, IsReach}
 use Rattle.rule_reach.proofs.AtReaches.{at_reached, at_reached_fragment}
-use Rattle.strict_values.specs.Departure.{Departure}
-use Rattle.strict_values.specs.Departing.{directives_departures, selection_departures}
+use Rattle.strict_documents.specs.Departure.{Departure}
+use Rattle.strict_documents.specs.Departing.{directives_departures, selection_departures}
 use Rattle.strict_documents.specs.Applying.{spread_departures}
 use Rattle.strict_documents.specs.DepartsIn.{default_departures, DepartsInVariable, DepartsInOperation, DepartsAtRoot}
 use Rattle.strict_documents.specs.Telling.{variable_departures, variables_departures, member_departures, members_departures, fragments_departures, reached_departures, DepartsInReached}

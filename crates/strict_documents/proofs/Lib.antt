@@ -1,7 +1,12 @@
+pub mod Types
+pub mod FloatPast
+pub mod Spelled
+pub mod Found
+pub mod Walked
 pub mod AtRoots
 pub mod Conditions
 pub mod Gathered
 pub mod Interfaces
 pub mod Operations
-pub mod Telling
+pub mod ToldTogether
 pub mod ToTheLetter

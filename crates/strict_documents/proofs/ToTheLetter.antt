@@ -19,13 +19,13 @@ use Rattle.rule_definitions.specs.Judged.{judged}
 use Rattle.rule_definitions.specs.Names.{argument_name, directive_name, defined_name}
 use Rattle.rule_definitions.proofs.Room.{room_first, room_silent}
 use Rattle.rule_document_definitions.specs.Selected.{selection_directives}
-use Rattle.strict_values.specs.Departure.{Departure}
-use Rattle.strict_values.specs.Departing.{departure_if, literal_departures, usage_kind, usage_departures_of, usage_departures, part_departures, plain_inputs, given_departures, argument_departures, directive_departures, directives_departures, own_departures, selection_departures}
-use Rattle.strict_values.specs.Letter.{is_past_64_bits, is_lone_item, is_usage_allowed}
-use Rattle.strict_values.specs.Locations.{Part, parts, argument_location}
-use Rattle.strict_values.specs.Views.{departure_tree}
-use Rattle.strict_values.specs.declared.departure.DepartureKind.{DepartureKind}
-use Rattle.strict_values.specs.declared.departure.DepartureKind.TheVariants as kind
+use Rattle.strict_documents.specs.Departure.{Departure}
+use Rattle.strict_documents.specs.Departing.{departure_if, literal_departures, usage_kind, usage_departures_of, usage_departures, part_departures, plain_inputs, given_departures, argument_departures, directive_departures, directives_departures, own_departures, selection_departures}
+use Rattle.strict_documents.specs.ValueLetter.{is_past_64_bits, is_lone_item, is_usage_allowed}
+use Rattle.strict_documents.specs.Locations.{Part, parts, argument_location}
+use Rattle.strict_documents.specs.DepartureViews.{departure_tree}
+use Rattle.strict_documents.specs.declared.departure.DepartureKind.{DepartureKind}
+use Rattle.strict_documents.specs.declared.departure.DepartureKind.TheVariants as kind
 use Rattle.strict_documents.specs.DepartsIn.{DepartsIn}
 use Rattle.strict_documents.specs.Letter.{argument_parts, given_parts, directive_parts, directives_parts, own_parts, selection_parts, IsToTheLetter, ReachesToTheLetter, NoDepartureMeansTheLetter}
 

@@ -10,9 +10,9 @@ use Rattle.schema_types.specs.declared.type_kind.TypeKind.TheVariants as type
 use Rattle.graphql_schema.specs.LookUps.{is_subtype, implements}
 use Rattle.spec_document.specs.MeantTree.{MeantSelection, MeantField, MeantSpread, MeantInline, MeantFragment}
 use Rattle.rule_document_definitions.specs.Selected.{selection_place}
-use Rattle.strict_values.specs.Departure.{Departure}
-use Rattle.strict_values.specs.Departing.{departure_if}
-use Rattle.strict_values.specs.declared.departure.DepartureKind.TheVariants as kind
+use Rattle.strict_documents.specs.Departure.{Departure}
+use Rattle.strict_documents.specs.Departing.{departure_if}
+use Rattle.strict_documents.specs.declared.departure.DepartureKind.TheVariants as kind
 
 -- the type that a fragment is on: of one that is spread, or of an inline fragment with a condition
 abbrev pub condition_of : {P : Type 0} → Entries (MeantFragment P) → MeantSelection P → Option (List ℕ)

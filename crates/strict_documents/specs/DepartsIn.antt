@@ -10,9 +10,9 @@ use Rattle.spec_document.specs.MeantTree.{MeantSet, meant_set, MeantOperation, M
 use Rattle.rule_definitions.specs.Words.{AtSomeIndex}
 use Rattle.rule_document_definitions.specs.Selected.{Standing}
 use Rattle.rule_document_definitions.specs.Reached.{AtRoot, AtOperation, AtReached, AtReachedFragment}
-use Rattle.strict_values.specs.Departure.{Departure}
-use Rattle.strict_values.specs.Locations.{Location}
-use Rattle.strict_values.specs.Departing.{value_departures, directives_departures, selection_departures}
+use Rattle.strict_documents.specs.Departure.{Departure}
+use Rattle.strict_documents.specs.Locations.{Location}
+use Rattle.strict_documents.specs.Departing.{value_departures, directives_departures, selection_departures}
 use Rattle.strict_documents.specs.Applying.{spread_departures, root_departures}
 
 -- the location of a variable's default

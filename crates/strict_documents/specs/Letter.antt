@@ -17,11 +17,11 @@ use Rattle.rule_definitions.specs.Names.{argument_name, directive_name, defined_
 use Rattle.rule_definitions.specs.Words.{IfPresent}
 use Rattle.rule_document_definitions.specs.Selected.{Standing, operations, selection_directives}
 use Rattle.rule_document_definitions.specs.Reached.{Reached}
-use Rattle.strict_values.specs.Departure.{Departure}
-use Rattle.strict_values.specs.Departing.{plain_inputs}
-use Rattle.strict_values.specs.Letter.{is_past_64_bits, is_lone_item, is_usage_allowed}
-use Rattle.strict_values.specs.Locations.{Part, parts, argument_location}
-use Rattle.strict_values.specs.declared.departure.Departure.{Departure as Rust}
+use Rattle.strict_documents.specs.Departure.{Departure}
+use Rattle.strict_documents.specs.Departing.{plain_inputs}
+use Rattle.strict_documents.specs.ValueLetter.{is_past_64_bits, is_lone_item, is_usage_allowed}
+use Rattle.strict_documents.specs.Locations.{Part, parts, argument_location}
+use Rattle.strict_documents.specs.declared.departure.Departure.{Departure as Rust}
 use Rattle.strict_documents.specs.DepartsIn.{DepartsIn}
 use Rattle.strict_documents.specs.Views.{TellsDepartures}
 

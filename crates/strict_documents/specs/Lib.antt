@@ -1,3 +1,10 @@
+pub mod Departure
+pub mod Locations
+pub mod ValueLetter
+pub mod Departing
+pub mod DepartureViews
+pub mod Given
+pub mod Characters
 pub mod Applying
 pub mod DepartsIn
 pub mod Implemented

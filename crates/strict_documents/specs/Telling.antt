@@ -15,10 +15,10 @@ use Rattle.rule_definitions.specs.GivenValues.{Variables}
 use Rattle.rule_definitions.specs.Room.{◌⊕◌}
 use Rattle.rule_document_definitions.specs.Reached.{AtReached, AtReachedFragment}
 use Rattle.rule_reach.specs.Reach.{Member}
-use Rattle.strict_values.specs.Departure.{Departure}
-use Rattle.strict_values.specs.Departing.{directives_departures, selection_departures}
-use Rattle.strict_values.specs.Views.{departures_of}
-use Rattle.strict_values.specs.declared.departure.Departure.{Departure as Rust}
+use Rattle.strict_documents.specs.Departure.{Departure}
+use Rattle.strict_documents.specs.Departing.{directives_departures, selection_departures}
+use Rattle.strict_documents.specs.DepartureViews.{departures_of}
+use Rattle.strict_documents.specs.declared.departure.Departure.{Departure as Rust}
 use Rattle.strict_documents.specs.Applying.{spread_departures, root_departures}
 use Rattle.strict_documents.specs.DepartsIn.{default_departures, DepartsInSelection}
 

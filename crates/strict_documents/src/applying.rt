@@ -7,17 +7,18 @@ ghost use Rattle.document_typed_selections.specs.TypedParts.{typed_spread_node};
 ghost use Rattle.spec_document.specs.MeantTree.{meant};
 ghost use Rattle.rule_document_definitions.specs.Selected.{selection_place};
 ghost use Rattle.rule_reach.specs.Reach.{meant_fragments};
-ghost use Rattle.strict_values.specs.Departing.{departure_if};
-ghost use Rattle.strict_values.specs.Views.{Tells};
+ghost use Rattle.strict_documents.specs.Departing.{departure_if};
+ghost use Rattle.strict_documents.specs.DepartureViews.{Tells};
 ghost use Rattle.strict_documents.specs.Applying.{condition_of, does_fragment_type_apply, root_departures, spread_departures};
 
+use crate::departure::{Departure, DepartureKind};
 use crate::objects::StrictSchema;
+use crate::telling::tell;
 use document_typed_operations::FragmentMap;
 use document_typed_selections::{FragmentSpread, Selection};
 use graphql_names::{Name, Node};
 use graphql_schema::Schema;
 use std::alloc::AllocError;
-use strict_values::{Departure, DepartureKind, tell};
 
 /// The type that the fragment is on that is spread, if it is defined.
 fn spread_condition<'doc>(

@@ -6,11 +6,11 @@ ghost use Rattle.strict_documents.specs.DepartsIn.{DepartsIn};
 ghost use Rattle.strict_documents.specs.Telling.{AddsDepartures};
 ghost use Rattle.strict_documents.specs.Views.{TellsDepartures};
 
+use crate::departure::Departure;
 use crate::objects::StrictSchema;
 use crate::operation::tell_operation;
 use document_typed_operations::ExecutableDocument;
 use std::alloc::{AllocError, Global};
-use strict_values::Departure;
 
 /// Adds the departures of each operation.
 fn tell_operations(

@@ -5,6 +5,7 @@ ghost use Rattle.document_typed_operations.specs.DocumentView.{document_meant, o
 ghost use Rattle.strict_documents.specs.DepartsIn.{DepartsInOperation};
 ghost use Rattle.strict_documents.specs.Telling.{AddsDepartures};
 
+use crate::departure::Departure;
 use crate::objects::StrictSchema;
 use crate::reached::tell_reached;
 use crate::roots::tell_roots;
@@ -12,7 +13,6 @@ use crate::variables::tell_variables;
 use document_typed_operations::{ExecutableDocument, Operation};
 use graphql_names::Node;
 use std::alloc::AllocError;
-use strict_values::Departure;
 
 /// Adds the departures of an operation: of its variables, of its directives and of what it reaches, and at the root of a
 /// subscription.

@@ -6,11 +6,14 @@ ghost use Rattle.document_typed_operations.specs.DocumentView.{document_meant, o
 ghost use Rattle.spec_document.specs.MeantTree.{meant};
 ghost use Rattle.rule_reach.specs.Reach.{meant_fragments, reached_fragments_of, reached_members};
 ghost use Rattle.rule_values.specs.Wanting.{variables_of};
-ghost use Rattle.strict_values.specs.Given.{schema_of, variables_in};
-ghost use Rattle.strict_values.specs.Views.{Tells};
+ghost use Rattle.strict_documents.specs.Given.{schema_of, variables_in};
+ghost use Rattle.strict_documents.specs.DepartureViews.{Tells};
 ghost use Rattle.strict_documents.specs.Telling.{AddsDepartures, DepartsInReached, applied_directives, fragments_departures, member_departures, members_departures, reached_departures};
 
 use crate::applying::tell_spread;
+use crate::arguments::{tell_directives, tell_selection};
+use crate::departure::Departure;
+use crate::location::Strictness;
 use crate::objects::StrictSchema;
 use document_typed_operations::{ExecutableDocument, FragmentMap, Operation};
 use document_typed_selections::Selection;
@@ -18,7 +21,6 @@ use graphql_names::{Name, Node};
 use rule_reach::{Reach, reach};
 use rule_values::{DefinedVariables, IndexedSchema};
 use std::alloc::AllocError;
-use strict_values::{Departure, Strictness, tell_directives, tell_selection};
 use tree_directives::Directive;
 
 /// Adds the departures of a selection of a set on the type of that name.

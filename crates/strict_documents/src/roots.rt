@@ -9,12 +9,12 @@ ghost use Rattle.strict_documents.specs.DepartsIn.{DepartsAtRoot};
 ghost use Rattle.strict_documents.specs.Telling.{AddsDepartures, TellsRoots};
 
 use crate::applying::tell_root;
+use crate::departure::Departure;
 use document_typed_operations::{ExecutableDocument, FragmentMap, Operation, ReachedSelections};
 use document_typed_selections::SelectionSet;
 use graphql_names::{Name, Node};
 use graphql_schema::Schema;
 use std::alloc::AllocError;
-use strict_values::Departure;
 
 /// Adds SubscriptionOfNothing of each selection that the set reaches through fragments alone, where its type is that object.
 fn tell_root_selections(

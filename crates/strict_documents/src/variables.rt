@@ -3,14 +3,17 @@ ghost use Rattle.std.specs.Prelude.{OnOk};
 ghost use Rattle.graphql_schema.specs.SchemaOf.{schema_tree};
 ghost use Rattle.tree_operations.specs.OperationTree.{variable_definition_tree};
 ghost use Rattle.rule_values.specs.Wanting.{variables_of};
-ghost use Rattle.strict_values.specs.Views.{Tells};
+ghost use Rattle.strict_documents.specs.DepartureViews.{Tells};
 ghost use Rattle.strict_documents.specs.DepartsIn.{default_departures};
 ghost use Rattle.strict_documents.specs.Telling.{variable_departures, variables_departures};
 
+use crate::arguments::tell_directives;
+use crate::departure::Departure;
+use crate::location::{Location, Strictness};
+use crate::values::tell_value;
 use graphql_names::Node;
 use rule_values::{DefinedVariables, IndexedSchema};
 use std::alloc::AllocError;
-use strict_values::{Departure, Location, Strictness, tell_directives, tell_value};
 use tree_operations::VariableDefinition;
 
 /// Adds the departures of the default of a variable, if it has one.

@@ -9,8 +9,8 @@ use Rattle.schema_types.specs.Addresses.{under}
 use Rattle.schema_types.specs.declared.type_kind.TypeKind.TheVariants as kind
 use Rattle.graphql_schema.specs.LookUps.{type_of_kind}
 use Rattle.rule_definitions.specs.Words.{Present, AtSomeIndex}
-use Rattle.strict_values.specs.Departing.{departure_if}
-use Rattle.strict_values.specs.declared.departure.DepartureKind.{DepartureKind}
+use Rattle.strict_documents.specs.Departing.{departure_if}
+use Rattle.strict_documents.specs.declared.departure.DepartureKind.{DepartureKind}
 use Rattle.strict_schemas.specs.Inputs.{inputs_of_type, inputs_of}
 use Rattle.strict_schemas.specs.Departing.{is_required_deprecated, is_own_built_in, own_departures, applied_departure, applied_departures, added_departures, added_directive, added_name, added_field, added_value, added_input, added_to, is_built_in_other, extended_departures, is_extra, extra_departure, extra_over_field, extra_over, extra_departures, deprecated_departures, default_departures, input_departures, inputs_departures, arguments_departures, input_fields_departures, type_departures, definition_departures, departures_of_schema}
 use Rattle.strict_schemas.specs.Letter.{HasAdded, HasApplied, HasExtra, HasLiterals}

@@ -16,10 +16,10 @@ use Rattle.schema_types.specs.SchemaTree.{SchemaType, SchemaTree, same_kind}
 use Rattle.schema_types.specs.Addresses.{under}
 use Rattle.schema_types.specs.declared.type_kind.TypeKind.TheVariants as kind
 use Rattle.graphql_schema.specs.LookUps.{type_of_kind}
-use Rattle.strict_values.specs.Departure.{Departure}
-use Rattle.strict_values.specs.Departing.{departure_if, value_departures}
-use Rattle.strict_values.specs.Locations.{argument_location}
-use Rattle.strict_values.specs.declared.departure.DepartureKind.TheVariants as departure
+use Rattle.strict_documents.specs.Departure.{Departure}
+use Rattle.strict_documents.specs.Departing.{departure_if, value_departures}
+use Rattle.strict_documents.specs.Locations.{argument_location}
+use Rattle.strict_documents.specs.declared.departure.DepartureKind.TheVariants as departure
 
 -- ---- RequiredDeprecated: an argument or input field that is required has `@deprecated` (section 3.13.3; in later editions too)
 

@@ -14,8 +14,8 @@ use Rattle.rule_definitions.specs.PlacedFaults.{PlacedFault}
 use Rattle.fault_data.specs.Adds.{Adds}
 use Rattle.fault_data.specs.FaultView.{faults_of}
 use Rattle.fault_data.specs.declared.fault.Fault.{Fault}
-use Rattle.strict_values.specs.Views.{departures_of}
-use Rattle.strict_values.specs.declared.departure.Departure.{Departure}
+use Rattle.strict_documents.specs.DepartureViews.{departures_of}
+use Rattle.strict_documents.specs.declared.departure.Departure.{Departure}
 use Rattle.strict_schemas.specs.Inputs.{inputs_of}
 use Rattle.strict_schemas.specs.Departing.{is_required_deprecated, is_own_built_in, is_built_in_other, is_extra, default_departures, departures_of_schema}
 use Rattle.strict_schemas.specs.Faults.{DefaultBreaks, ScalarBreaks, StrictBreaks}

@@ -21,7 +21,7 @@ use Rattle.schema_components.specs.declared.component_name.ComponentName.{Compon
 use Rattle.schema_types.specs.SchemaTree.{SchemaType, SchemaTree}
 use Rattle.schema_types.specs.TypeView.{name_text, extended_type}
 use Rattle.schema_types.specs.declared.extended_type.ExtendedType.{ExtendedType}
-use Rattle.strict_values.specs.Departure.{Departure}
+use Rattle.strict_documents.specs.Departure.{Departure}
 use Rattle.strict_schemas.specs.Departing.{added_directive, added_name, added_field, added_value, added_input, applied_departure, extra_departure, extra_over_field, extra_over, input_departures, inputs_departures, type_departures, definition_departures}
 
 -- entries of maps

@@ -5,7 +5,7 @@ ghost use Rattle.std.specs.Str.{bytes_eq};
 ghost use Rattle.graphql_names.specs.Placed.{node_tree};
 ghost use Rattle.tree_directives.specs.DirectiveTree.{directive_definition_tree, directives_tree};
 ghost use Rattle.graphql_schema.specs.SchemaOf.{schema_tree};
-ghost use Rattle.strict_values.specs.Views.{Tells};
+ghost use Rattle.strict_documents.specs.DepartureViews.{Tells};
 ghost use Rattle.strict_schemas.specs.Departing.{specified_directives, is_own_built_in, own_departures, applied_departure, definition_departures};
 ghost use Rattle.strict_schemas.specs.Told.{definitions_in};
 
@@ -15,7 +15,7 @@ use graphql_names::{Name, Node};
 use indexmap::IndexMap;
 use rule_values::IndexedSchema;
 use std::alloc::AllocError;
-use strict_values::{Departure, DepartureKind};
+use strict_documents::{Departure, DepartureKind};
 use tree_directives::{DirectiveDefinition, DirectiveList};
 
 /// Whether the specification has a directive of that name.

@@ -4,7 +4,7 @@ ghost use Rattle.graphql_names.specs.Places.{is_built_in};
 ghost use Rattle.schema_components.specs.Given.{component_name_tree};
 ghost use Rattle.schema_components.specs.Applied.{applied_tree};
 ghost use Rattle.schema_types.specs.TypeView.{extended_type};
-ghost use Rattle.strict_values.specs.Views.{Tells};
+ghost use Rattle.strict_documents.specs.DepartureViews.{Tells};
 ghost use Rattle.strict_schemas.specs.Departing.{added_departures, added_directive, added_name, added_field, added_value, added_input, added_to, is_built_in_other, extended_departures};
 ghost use Rattle.strict_schemas.specs.Told.{added_fields_of, added_values_of, added_inputs_of};
 
@@ -15,7 +15,7 @@ use indexmap::IndexMap;
 use schema_components::{Component, ComponentName, DirectiveList};
 use schema_types::ExtendedType;
 use std::alloc::AllocError;
-use strict_values::{Departure, DepartureKind};
+use strict_documents::{Departure, DepartureKind};
 use tree_directives::InputValueDefinition;
 use tree_type_members::{EnumValueDefinition, FieldDefinition};
 

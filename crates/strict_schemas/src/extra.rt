@@ -12,7 +12,7 @@ ghost use Rattle.schema_inputs.specs.Firsts.{AreNumbers};
 ghost use Rattle.schema_inputs.specs.Inputs.{input_name};
 ghost use Rattle.schema_types.specs.TypeView.{extended_type};
 ghost use Rattle.graphql_schema.specs.SchemaOf.{schema_tree};
-ghost use Rattle.strict_values.specs.Views.{Tells};
+ghost use Rattle.strict_documents.specs.DepartureViews.{Tells};
 ghost use Rattle.strict_schemas.specs.Departing.{is_extra, extra_departure, extra_over_field, extra_over, extra_departures};
 ghost use Rattle.strict_schemas.specs.Told.{field_entry, extra_arguments_of, extra_fields_of};
 
@@ -25,7 +25,7 @@ use schema_components::{Component, ComponentName};
 use schema_inputs::{FEW, definition_numbers};
 use schema_types::ExtendedType;
 use std::alloc::AllocError;
-use strict_values::{Departure, DepartureKind};
+use strict_documents::{Departure, DepartureKind};
 use tree_directives::InputValueDefinition;
 use tree_type_members::FieldDefinition;
 

@@ -4,7 +4,7 @@ ghost use Rattle.graphql_names.specs.Placed.{node_tree};
 ghost use Rattle.tree_directives.specs.DirectiveTree.{input_value_tree};
 ghost use Rattle.schema_types.specs.TypeView.{extended_type};
 ghost use Rattle.graphql_schema.specs.SchemaOf.{schema_tree};
-ghost use Rattle.strict_values.specs.Views.{Tells};
+ghost use Rattle.strict_documents.specs.DepartureViews.{Tells};
 ghost use Rattle.strict_schemas.specs.Departing.{is_required_deprecated, deprecated_departures, default_departures, input_departures, arguments_departures, input_fields_departures};
 ghost use Rattle.strict_schemas.specs.Told.{inputs_of_nodes, arguments_in, input_fields_in};
 
@@ -16,7 +16,7 @@ use rule_values::{DefinedVariables, IndexedSchema};
 use schema_components::Component;
 use schema_types::ExtendedType;
 use std::alloc::AllocError;
-use strict_values::{Departure, DepartureKind, Location, Strictness, tell_value};
+use strict_documents::{Departure, DepartureKind, Location, Strictness, tell_value};
 use tree_directives::InputValueDefinition;
 use tree_type_members::FieldDefinition;
 

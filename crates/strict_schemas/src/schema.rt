@@ -3,7 +3,7 @@ ghost use Rattle.std.specs.Prelude.{◌≡◌, take, IfOk, OnOk};
 ghost use Rattle.schema_types.specs.TypeView.{extended_type};
 ghost use Rattle.graphql_schema.specs.SchemaOf.{schema_tree};
 ghost use Rattle.rule_definitions.specs.Room.{most_told};
-ghost use Rattle.strict_values.specs.Views.{Tells, departures_of};
+ghost use Rattle.strict_documents.specs.DepartureViews.{Tells, departures_of};
 ghost use Rattle.strict_schemas.specs.Departing.{type_departures, departures_of_schema};
 ghost use Rattle.strict_schemas.specs.Told.{types_in};
 
@@ -17,7 +17,7 @@ use indexmap::IndexMap;
 use rule_values::IndexedSchema;
 use schema_types::ExtendedType;
 use std::alloc::{AllocError, Global};
-use strict_values::Departure;
+use strict_documents::Departure;
 
 /// Adds the departures of a type.
 fn tell_type(

@@ -1,11 +1,11 @@
 //! A departure of what has a name.
 ghost use Rattle.std.specs.Prelude.{OnOk};
-ghost use Rattle.strict_values.specs.Departing.{departure_if};
-ghost use Rattle.strict_values.specs.Views.{Tells};
+ghost use Rattle.strict_documents.specs.Departing.{departure_if};
+ghost use Rattle.strict_documents.specs.DepartureViews.{Tells};
 
 use graphql_names::{Name, SourceSpan};
 use std::alloc::AllocError;
-use strict_values::{Departure, DepartureKind, tell};
+use strict_documents::{Departure, DepartureKind, tell};
 
 /// Adds that departure, where `is_told`.
 pub(crate) fn tell_if(

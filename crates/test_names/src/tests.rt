@@ -218,7 +218,7 @@ fn orders_names(rt: HostRuntime) {
     hold(
         &rt,
         is_so,
-        "b is following aa, a is before aa, case matters",
+        "b comes after aa, a before aa, and case matters",
     );
 }
 

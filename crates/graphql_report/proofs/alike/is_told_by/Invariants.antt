@@ -1,6 +1,6 @@
 use Rattle.std.proofs.Common.{◌≡◌, drop, map}
 use Rattle.std.specs.List.{list_any}
-use Rattle.strict_values.specs.Views.{departure_tree}
+use Rattle.strict_documents.specs.DepartureViews.{departure_tree}
 use Rattle.graphql_report.specs.Alike.{is_alike}
 use Rattle.graphql_report.proofs.alike.is_told_by.Given as goal
 

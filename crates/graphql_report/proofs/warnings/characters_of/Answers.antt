@@ -2,7 +2,7 @@ use Rattle.std.proofs.Common.{refl, sym, ap, ◌∙◌, [], take_all}
 use Rattle.fault_data.specs.in_rule_definitions.Room.{◌⊕◌}
 use Rattle.fault_data.proofs.in_rule_definitions.Room.{room_first}
 use Rattle.report_forms.specs.declared.source.Source.{Source}
-use Rattle.strict_values.specs.Characters.{stretches_of}
+use Rattle.strict_documents.specs.Characters.{stretches_of}
 use Rattle.graphql_report.specs.Warnings.{texts_departures}
 use Rattle.graphql_report.proofs.Spelled.{text_more}
 use Rattle.graphql_report.proofs.warnings.characters_of.Goals as goal

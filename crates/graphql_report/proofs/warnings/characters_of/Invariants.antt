@@ -1,6 +1,6 @@
 use Rattle.std.proofs.Common.{◌≡◌, [], take}
 use Rattle.fault_data.specs.in_rule_definitions.Room.{◌⊕◌}
-use Rattle.strict_values.specs.Characters.{stretches_of}
+use Rattle.strict_documents.specs.Characters.{stretches_of}
 use Rattle.graphql_report.specs.Warnings.{texts_departures}
 use Rattle.graphql_report.proofs.warnings.characters_of.Given as goal
 

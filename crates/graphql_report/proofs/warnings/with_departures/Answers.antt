@@ -1,7 +1,7 @@
 use Rattle.std.proofs.Common.{refl, sym, subst, ◌≡◌, ◌+◌, ◌++◌, Vec, map, take}
 use Rattle.std.specs.declared.alloc.Global.{Global}
 use Rattle.graphql_names.specs.Placed.{Place}
-use Rattle.strict_values.specs.Views.{departure_tree}
+use Rattle.strict_documents.specs.DepartureViews.{departure_tree}
 use Rattle.graphql_report.specs.Alike.{each_once}
 use Rattle.graphql_report.specs.Warnings.{about_departure}
 use Rattle.graphql_report.specs.WarningViews.{told_of}

@@ -1,5 +1,5 @@
 use Rattle.std.proofs.Common.{◌≡◌, ◌++◌, map, take}
-use Rattle.strict_values.specs.Views.{departure_tree}
+use Rattle.strict_documents.specs.DepartureViews.{departure_tree}
 use Rattle.graphql_report.specs.Alike.{each_once}
 use Rattle.graphql_report.specs.Warnings.{about_departure}
 use Rattle.graphql_report.specs.WarningViews.{told_of}

@@ -1,8 +1,8 @@
 use Rattle.std.proofs.Common.{◌∙◌, List, map, ap}
 use Rattle.rule_definitions.specs.Room.{◌⊕◌}
 use Rattle.rule_definitions.proofs.Room.{room_first}
-use Rattle.strict_values.specs.Views.{departure_tree}
-use Rattle.strict_values.specs.declared.departure.Departure.{Departure as Rust}
+use Rattle.strict_documents.specs.DepartureViews.{departure_tree}
+use Rattle.strict_documents.specs.declared.departure.Departure.{Departure as Rust}
 use Rattle.strict_documents.proofs.document.document_departures.Goals as goal
 
 pub returns : goal.returns

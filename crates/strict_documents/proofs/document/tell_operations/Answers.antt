@@ -8,7 +8,7 @@ use Rattle.rule_definitions.specs.Words.{AtSomeIndex}
 use Rattle.rule_definitions.proofs.Adding.{gains_none, gains_more, gains_same}
 use Rattle.rule_document_definitions.specs.Selected.{operations}
 use Rattle.rule_reach.proofs.AtReaches.{some_index}
-use Rattle.strict_values.specs.Views.{departures_of}
+use Rattle.strict_documents.specs.DepartureViews.{departures_of}
 use Rattle.strict_documents.specs.DepartsIn.{DepartsInOperation}
 use Rattle.strict_documents.specs.Telling.{AddsDepartures}
 use Rattle.strict_documents.proofs.Operations.{lent_operation, lent_operations, all_operations, one_after, lent_more, lent_all}

@@ -6,7 +6,7 @@ use Rattle.document_typed_operations.specs.DocumentView.{document_meant, operati
 use Rattle.document_typed_operations.specs.declared.operation.Operation.{Operation}
 use Rattle.rule_definitions.specs.Room.{◌⊕◌}
 use Rattle.rule_values.specs.Wanting.{variables_of}
-use Rattle.strict_values.specs.Views.{departures_of}
+use Rattle.strict_documents.specs.DepartureViews.{departures_of}
 use Rattle.strict_documents.specs.DepartsIn.{DepartsAtRoot}
 use Rattle.strict_documents.specs.Telling.{AddsDepartures, variables_departures}
 use Rattle.strict_documents.proofs.Gathered.{operation_told}

@@ -4,10 +4,10 @@ use Rattle.graphql_schema.specs.SchemaOf.{schema_tree}
 use Rattle.graphql_schema.specs.declared.schema.Schema.{Schema}
 use Rattle.rule_reach.specs.Reach.{meant_fragments, reached_members, reached_fragments_of}
 use Rattle.rule_values.specs.Wanting.{variables_of}
-use Rattle.strict_values.specs.Departing.{directives_departures}
-use Rattle.strict_values.specs.Views.{departures_of}
+use Rattle.strict_documents.specs.Departing.{directives_departures}
+use Rattle.strict_documents.specs.DepartureViews.{departures_of}
 use Rattle.strict_documents.specs.Telling.{applied_directives, members_departures, fragments_departures}
-use Rattle.strict_documents.proofs.Telling.{both_told}
+use Rattle.strict_documents.proofs.ToldTogether.{both_told}
 use Rattle.strict_documents.proofs.reached.tell_all.Goals as goal
 
 pub returns : goal.returns

@@ -5,11 +5,11 @@ use Rattle.spec_document.specs.MeantTree.{MeantFragment}
 use Rattle.tree_directives.specs.DirectiveTree.{directives_tree}
 use Rattle.rule_definitions.specs.Room.{◌⊕◌}
 use Rattle.rule_reach.specs.Reach.{fragment_of}
-use Rattle.strict_values.specs.Given.{schema_of, variables_in}
-use Rattle.strict_values.specs.Departing.{directives_departures}
-use Rattle.strict_values.specs.Views.{departures_of}
+use Rattle.strict_documents.specs.Given.{schema_of, variables_in}
+use Rattle.strict_documents.specs.Departing.{directives_departures}
+use Rattle.strict_documents.specs.DepartureViews.{departures_of}
 use Rattle.strict_documents.specs.Telling.{applied_directives}
-use Rattle.strict_documents.proofs.Telling.{told_more, told_all}
+use Rattle.strict_documents.proofs.ToldTogether.{told_more, told_all}
 use Rattle.strict_documents.proofs.reached.tell_fragments.Goals as goal
 
 pub loop-index-preserved : goal.loop-index-preserved

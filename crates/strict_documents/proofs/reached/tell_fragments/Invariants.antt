@@ -1,8 +1,8 @@
 use Rattle.std.proofs.Common.{◌≡◌, map, take}
 use Rattle.rule_definitions.specs.Room.{◌⊕◌}
 use Rattle.rule_reach.specs.Reach.{fragment_of}
-use Rattle.strict_values.specs.Given.{schema_of, variables_in}
-use Rattle.strict_values.specs.Views.{departures_of}
+use Rattle.strict_documents.specs.Given.{schema_of, variables_in}
+use Rattle.strict_documents.specs.DepartureViews.{departures_of}
 use Rattle.strict_documents.specs.Telling.{fragments_departures}
 use Rattle.strict_documents.proofs.reached.tell_fragments.Given as goal
 

@@ -5,9 +5,9 @@ use Rattle.graphql_schema.specs.SchemaOf.{schema_tree}
 use Rattle.graphql_schema.specs.declared.schema.Schema.{Schema}
 use Rattle.spec_document.specs.MeantTree.{meant}
 use Rattle.rule_values.specs.Wanting.{variables_of}
-use Rattle.strict_values.specs.Departing.{selection_departures}
-use Rattle.strict_values.specs.Views.{departures_of}
-use Rattle.strict_documents.proofs.Telling.{both_told}
+use Rattle.strict_documents.specs.Departing.{selection_departures}
+use Rattle.strict_documents.specs.DepartureViews.{departures_of}
+use Rattle.strict_documents.proofs.ToldTogether.{both_told}
 use Rattle.strict_documents.proofs.reached.tell_member.Goals as goal
 
 pub returns : goal.returns

@@ -3,9 +3,9 @@ use Rattle.graphql_schema.specs.SchemaOf.{schema_tree}
 use Rattle.rule_definitions.specs.Room.{◌⊕◌}
 use Rattle.rule_reach.specs.Reach.{member_of, meant_fragments}
 use Rattle.rule_values.specs.Wanting.{variables_of}
-use Rattle.strict_values.specs.Views.{departures_of}
+use Rattle.strict_documents.specs.DepartureViews.{departures_of}
 use Rattle.strict_documents.specs.Telling.{member_departures, members_departures}
-use Rattle.strict_documents.proofs.Telling.{told_more, told_all}
+use Rattle.strict_documents.proofs.ToldTogether.{told_more, told_all}
 use Rattle.strict_documents.proofs.reached.tell_members.Goals as goal
 
 pub loop-parent-preserved : goal.loop-parent-preserved

@@ -3,7 +3,7 @@ use Rattle.graphql_schema.specs.SchemaOf.{schema_tree}
 use Rattle.rule_definitions.specs.Room.{◌⊕◌}
 use Rattle.rule_reach.specs.Reach.{member_of, meant_fragments}
 use Rattle.rule_values.specs.Wanting.{variables_of}
-use Rattle.strict_values.specs.Views.{departures_of}
+use Rattle.strict_documents.specs.DepartureViews.{departures_of}
 use Rattle.strict_documents.specs.Telling.{members_departures}
 use Rattle.strict_documents.proofs.reached.tell_members.Given as goal
 

@@ -10,7 +10,7 @@ use Rattle.rule_definitions.proofs.Adding.{gains_list}
 use Rattle.rule_reach.specs.Reach.{meant_fragments, reached_members, reached_fragments_of}
 use Rattle.rule_reach.proofs.OfDocuments.{ReachesFrom, operation_reaches}
 use Rattle.rule_values.specs.Wanting.{variables_of}
-use Rattle.strict_values.specs.Views.{departures_of}
+use Rattle.strict_documents.specs.DepartureViews.{departures_of}
 use Rattle.strict_documents.specs.Telling.{applied_directives, reached_departures}
 use Rattle.strict_documents.proofs.Gathered.{reached_told}
 use Rattle.strict_documents.proofs.reached.tell_reached.Goals as goal

@@ -8,10 +8,10 @@ use Rattle.graphql_names.specs.Placed.{Place}
 use Rattle.rule_definitions.specs.Room.{◌⊕◌}
 use Rattle.rule_reach.specs.Reach.{meant_fragments}
 use Rattle.spec_document.specs.MeantTree.{meant}
-use Rattle.strict_values.specs.Views.{departures_of}
+use Rattle.strict_documents.specs.DepartureViews.{departures_of}
 use Rattle.strict_documents.specs.Applying.{root_departures}
 use Rattle.strict_documents.specs.Telling.{roots_departures}
-use Rattle.strict_documents.proofs.Telling.{left_told}
+use Rattle.strict_documents.proofs.ToldTogether.{left_told}
 use Rattle.strict_documents.proofs.roots.tell_root_selections.Goals as goal
 
 pub loop-selection-init : goal.loop-selection-init

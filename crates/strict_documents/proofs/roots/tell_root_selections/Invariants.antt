@@ -7,7 +7,7 @@ use Rattle.document_typed_operations.specs.Reached.{Member, IsReached}
 use Rattle.document_typed_operations.specs.WalkView.{fragments_tree}
 use Rattle.rule_definitions.specs.Room.{◌⊕◌}
 use Rattle.rule_reach.specs.Reach.{meant_fragments}
-use Rattle.strict_values.specs.Views.{departures_of}
+use Rattle.strict_documents.specs.DepartureViews.{departures_of}
 use Rattle.strict_documents.specs.Telling.{roots_departures}
 use Rattle.strict_documents.proofs.roots.tell_root_selections.Given as goal
 

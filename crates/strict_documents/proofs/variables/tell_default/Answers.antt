@@ -8,10 +8,10 @@ use Rattle.tree_operations.specs.OperationTree.{variable_definition_tree}
 use Rattle.graphql_schema.specs.SchemaOf.{schema_tree}
 use Rattle.rule_definitions.specs.Room.{◌⊕◌}
 use Rattle.rule_values.specs.Wanting.{variables_of}
-use Rattle.strict_values.specs.Departing.{value_departures}
-use Rattle.strict_values.specs.Views.{departures_of}
+use Rattle.strict_documents.specs.Departing.{value_departures}
+use Rattle.strict_documents.specs.DepartureViews.{departures_of}
 use Rattle.strict_documents.specs.DepartsIn.{default_location}
-use Rattle.strict_documents.proofs.Telling.{nothing_told, found_told, argument_at}
+use Rattle.strict_documents.proofs.ToldTogether.{nothing_told, found_told, argument_at}
 use Rattle.strict_documents.proofs.variables.tell_default.Goals as goal
 
 pub returns-in-None : goal.returns-in-None

@@ -4,11 +4,11 @@ use Rattle.tree_directives.specs.DirectiveTree.{directives_tree}
 use Rattle.tree_operations.specs.OperationTree.{variable_definition_tree}
 use Rattle.graphql_schema.specs.SchemaOf.{schema_tree}
 use Rattle.rule_values.specs.Wanting.{variables_of}
-use Rattle.strict_values.specs.Departing.{directives_departures}
-use Rattle.strict_values.specs.Views.{departures_of}
+use Rattle.strict_documents.specs.Departing.{directives_departures}
+use Rattle.strict_documents.specs.DepartureViews.{departures_of}
 use Rattle.strict_documents.specs.DepartsIn.{default_departures}
 use Rattle.strict_documents.specs.Telling.{applied_directives}
-use Rattle.strict_documents.proofs.Telling.{both_told}
+use Rattle.strict_documents.proofs.ToldTogether.{both_told}
 use Rattle.strict_documents.proofs.variables.tell_variable.Goals as goal
 
 pub returns : goal.returns

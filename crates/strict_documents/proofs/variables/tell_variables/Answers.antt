@@ -4,9 +4,9 @@ use Rattle.graphql_schema.specs.SchemaOf.{schema_tree}
 use Rattle.tree_operations.specs.OperationTree.{variable_definition_tree}
 use Rattle.tree_operations.specs.declared.operation.VariableDefinition.{VariableDefinition}
 use Rattle.rule_definitions.specs.Room.{◌⊕◌}
-use Rattle.strict_values.specs.Views.{departures_of}
+use Rattle.strict_documents.specs.DepartureViews.{departures_of}
 use Rattle.strict_documents.specs.Telling.{variable_departures}
-use Rattle.strict_documents.proofs.Telling.{told_more, told_all}
+use Rattle.strict_documents.proofs.ToldTogether.{told_more, told_all}
 use Rattle.strict_documents.proofs.variables.tell_variables.Goals as goal
 
 pub loop-variable-preserved : goal.loop-variable-preserved

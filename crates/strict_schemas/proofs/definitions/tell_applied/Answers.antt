@@ -2,9 +2,9 @@ use Rattle.std.proofs.Common.{true, ◌∙◌, arith}
 use Rattle.graphql_names.specs.Placed.{node_tree}
 use Rattle.tree_directives.specs.DirectiveTree.{directive_tree}
 use Rattle.rule_definitions.specs.Room.{◌⊕◌}
-use Rattle.strict_values.specs.Departing.{departure_if}
-use Rattle.strict_values.specs.Views.{departures_of}
-use Rattle.strict_values.specs.declared.departure.DepartureKind.TheVariants as kind
+use Rattle.strict_documents.specs.Departing.{departure_if}
+use Rattle.strict_documents.specs.DepartureViews.{departures_of}
+use Rattle.strict_documents.specs.declared.departure.DepartureKind.TheVariants as kind
 use Rattle.strict_schemas.specs.Departing.{applied_departure}
 use Rattle.strict_schemas.proofs.Found.{told_more}
 use Rattle.strict_schemas.proofs.definitions.tell_applied.Goals as goal

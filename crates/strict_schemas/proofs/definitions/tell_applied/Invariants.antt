@@ -2,7 +2,7 @@ use Rattle.std.proofs.Common.{◌≡◌, map, take, flat_map}
 use Rattle.graphql_names.specs.Placed.{node_tree}
 use Rattle.tree_directives.specs.DirectiveTree.{directive_tree}
 use Rattle.rule_definitions.specs.Room.{◌⊕◌}
-use Rattle.strict_values.specs.Views.{departures_of}
+use Rattle.strict_documents.specs.DepartureViews.{departures_of}
 use Rattle.strict_schemas.specs.Departing.{applied_departure}
 use Rattle.strict_schemas.proofs.definitions.tell_applied.Given as goal
 

@@ -5,7 +5,7 @@ use Rattle.tree_directives.specs.DirectiveTree.{directives_tree, directive_defin
 use Rattle.tree_directives.specs.declared.directive.DirectiveDefinition.{DirectiveDefinition}
 use Rattle.graphql_schema.specs.SchemaOf.{schema_tree}
 use Rattle.rule_definitions.specs.Room.{◌⊕◌}
-use Rattle.strict_values.specs.Views.{departures_of}
+use Rattle.strict_documents.specs.DepartureViews.{departures_of}
 use Rattle.strict_schemas.specs.Departing.{own_departures, applied_departure, applied_departures, inputs_departures}
 use Rattle.strict_schemas.specs.Told.{inputs_of_nodes}
 use Rattle.strict_schemas.proofs.Found.{next}

@@ -2,7 +2,7 @@ use Rattle.std.proofs.Common.{◌≡◌, map, take, flat_map}
 use Rattle.tree_directives.specs.DirectiveTree.{directive_tree}
 use Rattle.schema_components.specs.Given.{component_tree}
 use Rattle.rule_definitions.specs.Room.{◌⊕◌}
-use Rattle.strict_values.specs.Views.{departures_of}
+use Rattle.strict_documents.specs.DepartureViews.{departures_of}
 use Rattle.strict_schemas.specs.Departing.{added_directive}
 use Rattle.strict_schemas.proofs.extended.tell_added_directives.Given as goal
 

@@ -1,7 +1,7 @@
 use Rattle.std.proofs.Common.{◌≡◌, map, take, flat_map}
 use Rattle.schema_components.specs.Given.{component_name_tree}
 use Rattle.rule_definitions.specs.Room.{◌⊕◌}
-use Rattle.strict_values.specs.Views.{departures_of}
+use Rattle.strict_documents.specs.DepartureViews.{departures_of}
 use Rattle.strict_schemas.specs.Departing.{added_name}
 use Rattle.strict_schemas.proofs.extended.tell_added_names.Given as goal
 

@@ -2,7 +2,7 @@ use Rattle.std.proofs.Common.{◌++◌, flat_map, ap, ◌∙◌}
 use Rattle.std.proofs.lemmas.Result.{on_ok_weaker}
 use Rattle.schema_types.specs.TypeView.{extended_type}
 use Rattle.rule_definitions.specs.Room.{◌⊕◌}
-use Rattle.strict_values.specs.Views.{departures_of}
+use Rattle.strict_documents.specs.DepartureViews.{departures_of}
 use Rattle.strict_schemas.specs.Departing.{added_directive, added_name, added_field, added_value, added_input}
 use Rattle.strict_schemas.proofs.Found.{next}
 use Rattle.strict_schemas.proofs.extended.tell_added_to.Goals as goal

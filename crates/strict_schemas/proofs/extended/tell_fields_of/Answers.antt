@@ -1,7 +1,7 @@
 use Rattle.std.proofs.Common.{sym, ap, ◌∙◌}
 use Rattle.std.proofs.lemmas.Result.{on_ok_weaker}
 use Rattle.schema_types.specs.TypeView.{extended_type}
-use Rattle.strict_values.specs.Views.{departures_of}
+use Rattle.strict_documents.specs.DepartureViews.{departures_of}
 use Rattle.strict_schemas.specs.Departing.{added_field}
 use Rattle.strict_schemas.specs.Told.{field_entry, field_entries}
 use Rattle.strict_schemas.proofs.Found.{told_as}

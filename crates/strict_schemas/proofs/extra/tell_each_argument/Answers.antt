@@ -1,7 +1,7 @@
 use Rattle.std.proofs.Common.{arith}
 use Rattle.graphql_names.specs.Placed.{node_tree}
 use Rattle.tree_directives.specs.DirectiveTree.{input_value_tree, input_value_trees}
-use Rattle.strict_values.specs.Views.{departures_of}
+use Rattle.strict_documents.specs.DepartureViews.{departures_of}
 use Rattle.strict_schemas.specs.Departing.{extra_departure}
 use Rattle.strict_schemas.proofs.Found.{told_more}
 use Rattle.strict_schemas.proofs.extra.tell_each_argument.Goals as goal

@@ -3,7 +3,7 @@ use Rattle.schema_components.specs.Given.{component_name_tree}
 use Rattle.schema_types.specs.TypeView.{extended_type}
 use Rattle.graphql_schema.specs.SchemaOf.{schema_tree}
 use Rattle.rule_definitions.specs.Room.{◌⊕◌}
-use Rattle.strict_values.specs.Views.{departures_of}
+use Rattle.strict_documents.specs.DepartureViews.{departures_of}
 use Rattle.strict_schemas.specs.Departing.{extra_over}
 use Rattle.strict_schemas.proofs.Found.{told_more, told_all}
 use Rattle.strict_schemas.proofs.extra.tell_extra.Goals as goal

@@ -11,7 +11,7 @@ use Rattle.schema_types.specs.declared.kinds.InterfaceType.{InterfaceType}
 use Rattle.schema_types.specs.declared.type_kind.TypeKind.TheVariants as kind
 use Rattle.graphql_schema.specs.LookUps.{type_of_kind}
 use Rattle.graphql_schema.specs.SchemaOf.{schema_tree}
-use Rattle.strict_values.specs.Views.{departures_of}
+use Rattle.strict_documents.specs.DepartureViews.{departures_of}
 use Rattle.strict_schemas.specs.Departing.{extra_over_field}
 use Rattle.strict_schemas.specs.Told.{field_entry}
 use Rattle.strict_schemas.proofs.Found.{nothing_told, found_told, told_as}

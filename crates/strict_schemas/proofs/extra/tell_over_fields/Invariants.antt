@@ -1,6 +1,6 @@
 use Rattle.std.proofs.Common.{◌≡◌, map}
 use Rattle.rule_definitions.specs.Room.{◌⊕◌}
-use Rattle.strict_values.specs.Views.{departures_of}
+use Rattle.strict_documents.specs.DepartureViews.{departures_of}
 use Rattle.strict_schemas.specs.Told.{extra_fields_of}
 use Rattle.strict_schemas.proofs.extra.tell_over_fields.Given as goal
 

@@ -8,9 +8,9 @@ use Rattle.tree_directives.specs.DirectiveTree.{input_value_tree, unplaced_input
 use Rattle.graphql_schema.specs.SchemaOf.{schema_tree}
 use Rattle.rule_definitions.specs.Room.{◌⊕◌}
 use Rattle.rule_values.specs.Wanting.{variables_of}
-use Rattle.strict_values.specs.Departing.{value_departures}
-use Rattle.strict_values.specs.Locations.{argument_location}
-use Rattle.strict_values.specs.Views.{departures_of}
+use Rattle.strict_documents.specs.Departing.{value_departures}
+use Rattle.strict_documents.specs.Locations.{argument_location}
+use Rattle.strict_documents.specs.DepartureViews.{departures_of}
 use Rattle.strict_schemas.proofs.Found.{nothing_told, found_told}
 use Rattle.strict_schemas.proofs.inputs.tell_default.Goals as goal
 

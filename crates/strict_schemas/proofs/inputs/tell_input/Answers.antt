@@ -5,7 +5,7 @@ use Rattle.tree_directives.specs.DirectiveTree.{input_value_tree}
 use Rattle.tree_directives.specs.declared.input_value.InputValueDefinition.{InputValueDefinition}
 use Rattle.graphql_schema.specs.SchemaOf.{schema_tree}
 use Rattle.rule_definitions.specs.Room.{◌⊕◌}
-use Rattle.strict_values.specs.Views.{departures_of}
+use Rattle.strict_documents.specs.DepartureViews.{departures_of}
 use Rattle.strict_schemas.specs.Departing.{deprecated_departures, default_departures}
 use Rattle.strict_schemas.proofs.Found.{next}
 use Rattle.strict_schemas.proofs.inputs.tell_input.Goals as goal

@@ -2,7 +2,7 @@ use Rattle.std.proofs.Common.{arith}
 use Rattle.graphql_names.specs.Placed.{node_tree}
 use Rattle.tree_directives.specs.DirectiveTree.{input_value_tree}
 use Rattle.graphql_schema.specs.SchemaOf.{schema_tree}
-use Rattle.strict_values.specs.Views.{departures_of}
+use Rattle.strict_documents.specs.DepartureViews.{departures_of}
 use Rattle.strict_schemas.specs.Departing.{input_departures}
 use Rattle.strict_schemas.proofs.Found.{told_more}
 use Rattle.strict_schemas.proofs.inputs.tell_inputs.Goals as goal

@@ -2,7 +2,7 @@ use Rattle.std.proofs.Common.{map, ◌∙◌}
 use Rattle.graphql_schema.specs.SchemaOf.{schema_tree}
 use Rattle.rule_definitions.specs.Room.{◌⊕◌}
 use Rattle.rule_definitions.proofs.Room.{room_first}
-use Rattle.strict_values.specs.Views.{departure_tree}
+use Rattle.strict_documents.specs.DepartureViews.{departure_tree}
 use Rattle.strict_schemas.specs.Departing.{departures_of_schema}
 use Rattle.strict_schemas.proofs.schema.schema_departures.Goals as goal
 

@@ -4,7 +4,7 @@ use Rattle.schema_types.specs.TypeView.{extended_type}
 use Rattle.graphql_schema.specs.SchemaOf.{schema_tree}
 use Rattle.graphql_schema.specs.declared.schema.Schema.{Schema}
 use Rattle.rule_definitions.specs.Room.{◌⊕◌}
-use Rattle.strict_values.specs.Views.{departures_of}
+use Rattle.strict_documents.specs.DepartureViews.{departures_of}
 use Rattle.strict_schemas.specs.Departing.{extended_departures, extra_departures, arguments_departures, input_fields_departures}
 use Rattle.strict_schemas.proofs.Found.{next}
 use Rattle.strict_schemas.proofs.schema.tell_type.Goals as goal
