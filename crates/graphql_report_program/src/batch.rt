@@ -1,7 +1,8 @@
 //! Documents as lines of JSON, and other schemas between them.
 
 use crate::{
-    OpenSchema, entries_of, faults_of, open_schema, report_of_schema, schema_of, warnings_of,
+    OpenSchema, entries_of, faults_of, open_schema, report_of_schema, schema_of, schema_warnings,
+    warnings_of,
 };
 use graphql_checked::{Layout, Refusal};
 use graphql_report::Report;
@@ -84,8 +85,8 @@ fn answer_opened(
 ) -> Result<Option<SchemaRequest>, Stop> {
     match schema_of(rt.alloc(), &request.texts, telling.settings.nesting) {
         Ok(schema) => {
-            answer_schema_accepted(rt, &request.id)?;
             let schema = open_schema(rt.alloc(), telling.settings, &schema)?;
+            answer_schema(rt, telling, &schema, &request.id, tally)?;
             answer_lines(rt, telling, Some(&schema), lines, number, tally)
         }
         Err(refusal) => {
@@ -93,6 +94,18 @@ fn answer_opened(
             answer_lines(rt, telling, None, lines, number, tally)
         }
     }
+}
+
+/// Answers that the schema is accepted, with the warnings about it.
+pub(crate) fn answer_schema(
+    rt: &HostRuntime,
+    telling: &Telling<'_>,
+    schema: &OpenSchema<'_>,
+    id: &str,
+    tally: &mut Tally,
+) -> Result<(), Stop> {
+    let report = schema_warnings(rt.alloc(), telling, schema)?;
+    answer_schema_accepted(rt, telling.settings, id, entries_of(&report), tally)
 }
 
 /// Answers that the schema is refused, and why.

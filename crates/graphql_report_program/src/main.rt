@@ -11,7 +11,7 @@
 
 mod batch;
 
-use crate::batch::check_batch;
+use crate::batch::{answer_schema, check_batch};
 use graphql_checked::{CheckedDocument, CheckedSchema, Checker, DiagnosticList, Limits, Refusal};
 use graphql_report::{Entry, Report, Severity, StrictSchema};
 use report_cli::{
@@ -119,7 +119,7 @@ fn warnings_of(
     Ok(Some(report))
 }
 
-/// The warnings about the schema, if they are asked for. Lines of a batch have no place for them.
+/// The warnings about the schema, if they are asked for.
 fn schema_warnings(
     alloc: Global,
     telling: &Telling<'_>,
@@ -128,9 +128,6 @@ fn schema_warnings(
     let Some(strict) = &schema.strict else {
         return Ok(None);
     };
-    if telling.settings.batch {
-        return Ok(None);
-    }
     let path = schema_path(telling);
     let report = Report::of_schema_warnings(alloc, strict, telling.schemas, path)?;
     Ok(Some(report))
@@ -178,13 +175,19 @@ fn check_document(
     }
 }
 
-/// Tells that the schema is accepted, and the warnings about it.
+/// Tells that the schema is accepted, and the warnings about it. A batch begins with a line of JSON for them, if they are asked for.
 fn tell_accepted(
     rt: &HostRuntime,
     telling: &Telling<'_>,
     schema: &OpenSchema<'_>,
     tally: &mut Tally,
 ) -> Result<(), Stop> {
+    if telling.settings.batch {
+        return match &schema.strict {
+            None => Ok(()),
+            Some(_) => answer_schema(rt, telling, schema, "null", tally),
+        };
+    }
     let report = schema_warnings(rt.alloc(), telling, schema)?;
     telling.tell(rt, None, Severity::Warning, entries_of(&report), tally)
 }

@@ -43,8 +43,9 @@ pub refused_made : (id faults : List ℕ) (left_out : ℕ)
     → codes "{\"id\":" ++ (id ++ (codes ",\"accepted\":false,\"faults\":[" ++ (faults ++ (codes "],\"left_out\":" ++ (decimal left_out ++ codes "}\n"))))) ≡ refused_text id faults left_out
 refused_made id faults left_out = eight (codes "{\"id\":") id (codes ",\"accepted\":") (codes "false,\"faults\":[") faults (codes "],\"left_out\":") (decimal left_out) (codes "}\n")
 
-pub schema_accepted_made : (id : List ℕ) → codes "{\"id\":" ++ (id ++ codes ",\"schema\":\"accepted\"}\n") ≡ schema_accepted_text id
-schema_accepted_made id = four (codes "{\"id\":") id (codes ",\"schema\":") (codes "\"accepted\"}\n")
+pub schema_accepted_made : (id members : List ℕ)
+    → codes "{\"id\":" ++ (id ++ (codes ",\"schema\":\"accepted\"" ++ (members ++ codes "}\n"))) ≡ schema_accepted_text id members
+schema_accepted_made id members = six (codes "{\"id\":") id (codes ",\"schema\":") (codes "\"accepted\"") members (codes "}\n")
 
 pub schema_refused_made : (id faults : List ℕ) (left_out : ℕ)
     → codes "{\"id\":" ++ (id ++ (codes ",\"schema\":\"refused\",\"faults\":[" ++ (faults ++ (codes "],\"left_out\":" ++ (decimal left_out ++ codes "}\n")))))

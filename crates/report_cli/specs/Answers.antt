@@ -15,7 +15,7 @@ begun_text id = codes "{\"id\":" ++ id ++ codes ",\"accepted\":"
 abbrev pub accepted_text : List ℕ → List ℕ → List ℕ → List ℕ
 accepted_text id written members = begun_text id ++ codes "true,\"written\":" ++ quoted written ++ members ++ codes "}\n"
 
--- its members for warnings, as JSON, and how many more are left out
+-- the members for warnings of such an answer, as JSON, and how many more are left out
 abbrev pub warnings_members : List ℕ → ℕ → List ℕ
 warnings_members warnings left_out = codes ",\"warnings\":[" ++ warnings ++ codes "],\"left_out\":" ++ decimal left_out
 
@@ -27,9 +27,9 @@ refused_text id faults left_out = begun_text id ++ codes "false,\"faults\":[" ++
 abbrev pub opened_text : List ℕ → List ℕ
 opened_text id = codes "{\"id\":" ++ id ++ codes ",\"schema\":"
 
--- the answer to a schema that is accepted
-abbrev pub schema_accepted_text : List ℕ → List ℕ
-schema_accepted_text id = opened_text id ++ codes "\"accepted\"}\n"
+-- the answer to a schema that is accepted, with these members
+abbrev pub schema_accepted_text : List ℕ → List ℕ → List ℕ
+schema_accepted_text id members = opened_text id ++ codes "\"accepted\"" ++ members ++ codes "}\n"
 
 -- the answer to a schema that is refused: its faults, as JSON, and how many more are left out
 abbrev pub schema_refused_text : List ℕ → List ℕ → ℕ → List ℕ

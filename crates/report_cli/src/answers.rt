@@ -21,7 +21,7 @@ pub(crate) fn accepted_line(
     format!(in alloc; "{{\"id\":{id},\"accepted\":true,\"written\":{written}{members}}}\n")
 }
 
-/// Its members for warnings: `,"warnings":[WARNINGS],"left_out":N`. The warnings are JSON, with a comma between each two; N more are
+/// The members for warnings of such an answer: `,"warnings":[WARNINGS],"left_out":N`. The warnings are JSON, with a comma between each two; N more are
 /// left out.
 pub(crate) fn warnings_members(
     alloc: Global,
@@ -48,11 +48,15 @@ pub(crate) fn refused_line(
     )
 }
 
-/// The answer to a schema that is accepted: `{"id":ID,"schema":"accepted"}`. The id is JSON.
-pub(crate) fn schema_accepted_line(alloc: Global, id: &str) -> Result<String, AllocError>
-    ensures { IfOk result (λ line. string_bytes line ≡ schema_accepted_text id.now) }
+/// The answer to a schema that is accepted: `{"id":ID,"schema":"accepted"}`, with these members after them. The id is JSON.
+pub(crate) fn schema_accepted_line(
+    alloc: Global,
+    id: &str,
+    members: &str,
+) -> Result<String, AllocError>
+    ensures { IfOk result (λ line. string_bytes line ≡ schema_accepted_text id.now members.now) }
 {
-    format!(in alloc; "{{\"id\":{id},\"schema\":\"accepted\"}}\n")
+    format!(in alloc; "{{\"id\":{id},\"schema\":\"accepted\"{members}}}\n")
 }
 
 /// The answer to a schema that is refused: `{"id":ID,"schema":"refused","faults":[FAULTS],"left_out":N}`. The id is JSON, and so

@@ -52,25 +52,26 @@ pub fn answer_accepted(
     tally: &mut Tally,
 ) -> Result<(), Stop> {
     tally.add_accepted();
-    tally.add_told(Severity::Warning, warnings.len());
-    tell_cut(rt, settings, Severity::Warning, warnings.len());
-    let members = members_of(rt.alloc(), settings, warnings)?;
+    let members = members_of(rt, settings, warnings, tally)?;
     let line = accepted_line(rt.alloc(), id, written, &members)?;
     put(rt, &line)
 }
 
-/// The members for warnings, if they are told.
+/// Counts the warnings. The members for as many as are asked for, if warnings are told.
 fn members_of(
-    alloc: Global,
+    rt: &HostRuntime,
     settings: &Settings,
     warnings: &[Entry],
+    tally: &mut Tally,
 ) -> Result<String, AllocError> {
+    tally.add_told(Severity::Warning, warnings.len());
+    tell_cut(rt, settings, Severity::Warning, warnings.len());
     if matches!(settings.lints, LintLevel::Allow) {
-        return Ok(String::new(alloc));
+        return Ok(String::new(rt.alloc()));
     }
     let (told, left_out) = warnings.split_at(warnings.len().min(settings.max_faults));
-    let told = objects(alloc, told)?;
-    warnings_members(alloc, &told, left_out.len())
+    let told = objects(rt.alloc(), told)?;
+    warnings_members(rt.alloc(), &told, left_out.len())
 }
 
 /// Answers that a document is refused, with as many of its faults as are asked for.
@@ -87,9 +88,16 @@ pub fn answer_refused(
     put(rt, &line)
 }
 
-/// Answers that a schema is accepted.
-pub fn answer_schema_accepted(rt: &HostRuntime, id: &str) -> Result<(), Stop> {
-    let line = schema_accepted_line(rt.alloc(), id)?;
+/// Answers that a schema is accepted, with as many of its warnings as are asked for.
+pub fn answer_schema_accepted(
+    rt: &HostRuntime,
+    settings: &Settings,
+    id: &str,
+    warnings: &[Entry],
+    tally: &mut Tally,
+) -> Result<(), Stop> {
+    let members = members_of(rt, settings, warnings, tally)?;
+    let line = schema_accepted_line(rt.alloc(), id, &members)?;
     put(rt, &line)
 }
 

@@ -5,5 +5,7 @@ use Rattle.report_cli.proofs.answers.schema_accepted_line.Goals as goal
 
 pub returns : goal.returns
 returns c =
-    made_as c.format.result (codes "{\"id\":" ++ (c.args.id.now ++ codes ",\"schema\":\"accepted\"}\n")) (schema_accepted_text c.args.id.now) (schema_accepted_made c.args.id.now)
+    let id = c.args.id.now in
+    let members = c.args.members.now in
+    made_as c.format.result (codes "{\"id\":" ++ (id ++ (codes ",\"schema\":\"accepted\"" ++ (members ++ codes "}\n")))) (schema_accepted_text id members) (schema_accepted_made id members)
     c.format.ensures.ok
