@@ -41,7 +41,7 @@ module _ (s : SchemaTree Place) where
   HasLiterals v = default_departures s v ≢ []
 
   pub record KeepsTheLetter : Type 0 where
-    -- each default fits its type (3.6.1 and 3.10, in later editions)
+    -- each default fits its type (3.6.1 and 3.10, in later editions), and no object in one has a key twice (5.6.3)
     pub defaults : (fault : PlacedFault) → AtSomeIndex (inputs_of s) (λ i v. DefaultBreaks s v fault) → ⊥
     -- the directives of built-in scalars keep the rules on uses (5.7)
     pub scalars : (fault : PlacedFault) → AtSomeIndex s.types (λ i e. ScalarBreaks s e.1 fault) → ⊥

@@ -1,23 +1,42 @@
 //! Defaults that do not fit their types (sections 3.6.1 and 3.10).
 ghost use Rattle.std.specs.Prelude.{map, OnOk};
+ghost use Rattle.graphql_names.specs.Node.{content, place};
 ghost use Rattle.graphql_names.specs.Placed.{node_tree};
+ghost use Rattle.tree_literals.specs.ValueTree.{value_tree};
 ghost use Rattle.tree_directives.specs.DirectiveTree.{input_value_tree, input_value_trees};
 ghost use Rattle.schema_types.specs.TypeView.{extended_type};
 ghost use Rattle.graphql_schema.specs.SchemaOf.{schema_tree};
 ghost use Rattle.fault_data.specs.Adds.{Adds};
-ghost use Rattle.strict_schemas.specs.Faults.{DefaultBreaks, DefaultsBreak};
+ghost use Rattle.rule_values.specs.Wanting.{wanted_type};
+ghost use Rattle.strict_schemas.specs.Faults.{LiteralBreaks, DefaultBreaks, DefaultsBreak};
 ghost use Rattle.strict_schemas.specs.FaultsIn.{DefaultsIn, ArgumentDefaults, InputDefaults, TypesDefaults, DefinitionsDefaults};
 ghost use Rattle.strict_schemas.specs.Told.{field_entry, input_entry, type_entry, definition_entry};
 
 use crate::parts::{fields_of, input_fields_of};
 use graphql_names::{Name, Node};
 use indexmap::IndexMap;
-use rule_values::{DefinedVariables, Fault, IndexedSchema, type_breaks};
+use rule_values::{DefinedVariables, Fault, IndexedSchema, type_breaks, unique_input_values};
 use schema_components::Component;
 use schema_types::ExtendedType;
 use std::alloc::AllocError;
 use tree_directives::{DirectiveDefinition, InputValueDefinition};
+use tree_literals::{Type, Value};
 use tree_type_members::FieldDefinition;
+
+/// Adds the faults of a value without variables, against a type: the keys of each object in it differ (section 5.6.3), and it fits the
+/// type (5.6.1).
+fn check_literal(
+    schema: &IndexedSchema<'_>,
+    ty: &Node<Type>,
+    value: &Node<Value>,
+    faults: &mut Vec<Fault>,
+) -> Result<(), AllocError>
+    ensures { OnOk result (Adds faults.old faults.new (LiteralBreaks (schema_tree schema.now) (wanted_type ty.now) (place value.now) (value_tree (content value.now)))) }
+{
+    unique_input_values(value, faults)?;
+    let variables = DefinedVariables::listed(&[]);
+    type_breaks(schema, ty, value, &variables, faults)
+}
 
 /// Adds the faults by which the default of an argument or input field, if it has one, does not fit its type.
 fn check_default(
@@ -30,10 +49,7 @@ fn check_default(
     let own = input.content();
     match &own.default_value {
         None => Ok(()),
-        Some(value) => {
-            let variables = DefinedVariables::listed(&[]);
-            type_breaks(schema, &own.ty, value, &variables, faults)
-        }
+        Some(value) => check_literal(schema, &own.ty, value, faults),
     }
 }
 
