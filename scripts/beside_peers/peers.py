@@ -198,7 +198,7 @@ class Checker:
         if status in "01" and len(told) == len(documents) and all("accepted" in it for it in told):
             return [], [[Fault(fault) for fault in it.get("faults", [])] for it in told]
         faults = [it for it in told if "rule" in it]
-        if status != "1" or not faults or any("accepted" in it for it in told):
+        if status != "1" or not faults or any("id" in it for it in told):
             with open(self.path(index, "graphql"), encoding="utf-8", newline="") as file:
                 sys.exit(f"beside: the checker answers otherwise than wanted, with status {status}, at {file.read()!r} with {documents!r}")
         return [Fault(it) for it in faults], [[] for _ in documents]
@@ -206,3 +206,13 @@ class Checker:
     def verdicts(self, schema, documents):
         """The same of one schema and its documents."""
         return self.many([(schema, documents)])[0]
+
+    def warnings(self, schema, document):
+        """The names of its warnings about a schema that it accepts, and about the document over it, if there is one."""
+        paths = [self.path("warned", "graphql"), self.path("warned", "document")]
+        for path, text in zip(paths, (schema, document)):
+            with open(path, "w", encoding="utf-8", newline="") as file:
+                file.write(text)
+        words = [*self.words, "--warn", "--format", "json", "--schema", paths[0], *(paths[1:] if document else [])]
+        told = subprocess.run(words, capture_output=True, text=True, check=False).stdout.splitlines()
+        return {it["rule"] for it in map(json.loads, told) if it.get("severity") == "warning"}
