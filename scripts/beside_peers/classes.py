@@ -218,6 +218,8 @@ add(CORE, "accepts", "schema", "extensions are left out", "^(Orphan|TypeExtensio
 add(CORE, "accepts", "schema", "variables in a schema", "^Syntax: ", "slip, 2.12", "schema { query: Query } type Query @d(x: $v) { a: Int }", "{ a }",
     lambda told, schema, _: re.search(r"\$ \w", schema))
 add(CORE, "accepts", "schema", "any name is a location of directives", "^Syntax: ", "slip, 3.13", OLD + " directive @d on FIELD | ANYWHERE", "{ a }", tests.has_unknown_location)
+add(CORE, "accepts", "schema", "an enum value `true`, `false` or `null`", "^Syntax: ", "slip, 3.9", OLD + " enum E { false }", "{ a }",
+    lambda told, schema, _: re.search(r"\benum \w+ [^{]*\{[^}]*\b(true|false|null)\b", schema))
 add(CORE, "accepts", "schema", "interfaces are listed without `&`", "^Syntax: ", "slip, 3.6",
     "schema { query: Query } interface I { a: Int } interface J { a: Int } type Query implements I J { a: Int }", "{ a }",
     lambda told, schema, _: re.search(r"implements \w+ \w+", schema))
