@@ -1,6 +1,6 @@
 """The forms are those of `graphql-report`, whose runs are in examples/report/runs.txt: line for line, but for the last, how much was
-found, which JSON has as records, and but for that of the schema. Left out are runs that cut what is printed, or name a file twice or one
-that is not there."""
+found, which JSON has as records, and but for that of the schema. Left out are runs that cut what is printed, name a file twice or one that is
+not there, or have what `graphql-check` does not tell: SARIF, and warnings of what the specification does not allow."""
 
 import re
 import shlex
@@ -10,7 +10,7 @@ import pytest
 from conftest import TOP, Repository
 
 
-LEFT_OUT = re.compile(r"[|<>]|--batch|--help|--version|--max-faults|--quiet|none\.graphql|(\S+twice\S+) .*\1")
+LEFT_OUT = re.compile(r"[|<>]|--batch|--help|--version|--max-faults|--quiet|sarif|laxer|none\.graphql|(\S+twice\S+) .*\1")
 
 
 def runs() -> List[Tuple[str, List[str]]]:
